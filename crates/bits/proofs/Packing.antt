@@ -1,0 +1,79 @@
+-- The bits of a list of w-bit elements and the elements made of bits, over the width. Assumes nothing.
+use Prim.Native.Nat.{ℕ, zero, suc, _+_, _-_, _*_, _/_, _%_, _^_, _≤_, _<_}
+use mathlib.Core.Path.{_≡_, sym, ap, _∙_}
+use mathlib.Core.List.{List}
+use native.Mathlib.Nat.{add-zero, mul-comm, zero-add, div-eq-of-lt, mod-lt, mul-add-div, mul-add-mod-self-left, mod-eq-of-lt, sub-self, div-one, div-lt-iff-lt-mul, div-add-mod, zero-mul, zero-div, mul-le-mul-left, mul-add, mul-one}
+use native.Mathlib.Omega.{arith}
+use lib.ListN.{length, getD, List·getD-eq-default}
+use Rattle.bits.specs.Bits.{tabulate, num, digit, bitOf, packs, Bits}
+use Rattle.bits.proofs.Lists.{length-tabulate, getD-tabulate, tabulate-ext, tabulate-getD}
+use Rattle.bits.proofs.Numbers.{num-ext, num-split, num-front, num-back, digit-num, digit-lt, num-is}
+
+-- ---- the bits of a list of w-bit elements
+
+pub bitOf-lt : (w : ℕ) (s : List ℕ) → Bits (bitOf w s)
+unfolding bitOf
+bitOf-lt w s i = digit-lt w (getD s (i / w) 0) (i % w)
+
+-- past the end every bit is 0
+pub bitOf-past : (w : ℕ) (s : List ℕ) (i : ℕ) → length s ≤ i / w → bitOf w s i ≡ 0
+unfolding bitOf digit
+bitOf-past w s i h = rw (List·getD-eq-default s 0 h, zero-div)
+
+-- bit j of element k
+pub bitOf-at : (w : ℕ) (s : List ℕ) (k j : ℕ) → j < w → bitOf w s (w * k + j) ≡ digit w (getD s k 0) j
+unfolding bitOf
+bitOf-at w s k j h =
+    let p : 0 < w = omega arith in
+    let d : (w * k + j) / w ≡ k = mul-add-div p k j ∙ rw (div-eq-of-lt h, add-zero) in
+    let m : (w * k + j) % w ≡ j = mul-add-mod-self-left w k j ∙ mod-eq-of-lt h in
+    rw (d, m)
+
+-- element k, from its bits
+pub num-bitOf : (w : ℕ) (s : List ℕ) (k : ℕ) → getD s k 0 < 2 ^ w → num w (bitOf w s) (w * k) ≡ getD s k 0
+num-bitOf w s k h = num-is w (bitOf w s) (w * k) (getD s k 0) h (λ j l. bitOf-at w s k j l)
+
+pub length-packs : (w n : ℕ) (f : ℕ → ℕ) → length (packs w n f) ≡ n
+length-packs w n f = length-tabulate n (λ k. num w f (w * k))
+
+-- the bits of a packed list are the bits that were packed
+pub bitOf-packs : (w n : ℕ) (f : ℕ → ℕ) (i : ℕ) → Bits f → i < w * n → bitOf w (packs w n f) i ≡ f i
+unfolding bitOf
+bitOf-packs w n f i h l =
+    let p : 0 < w = pos-of-mul w n i l in
+    let q : i / w < n = div-lt-iff-lt-mul p .1 (rw mul-comm at l) in
+    rw (getD-tabulate 0 n (λ k. num w f (w * k)) (i / w) q, digit-num w f (w * (i / w)) (i % w) h (mod-lt i p), div-add-mod)
+  where
+    pos-of-mul : (a b c : ℕ) → c < a * b → 0 < a
+    pos-of-mul zero b c h = absurd (omega (arith, rw zero-mul at h))
+    pos-of-mul (suc a) b c h = omega arith
+
+-- a list of w-bit elements is what its bits pack to
+pub packs-bitOf : (w : ℕ) (s : List ℕ) → ((k : ℕ) → getD s k 0 < 2 ^ w) → packs w (length s) (bitOf w s) ≡ s
+packs-bitOf w s h =
+    tabulate-ext (length s) (λ k. num w (bitOf w s) (w * k)) (λ k. getD s k 0) (λ k l. num-bitOf w s k (h k)) ∙ tabulate-getD 0 s
+
+-- bit j of element k is one of the first w * n
+pub below : (w n k j : ℕ) → k < n → j < w → w * k + j < w * n
+below w n k j l m = omega (arith, mul-le-mul-left w l)
+
+-- bit functions that agree on the first w * n bits pack alike
+pub packs-ext : (w n : ℕ) (f g : ℕ → ℕ) → ((i : ℕ) → i < w * n → f i ≡ g i) → packs w n f ≡ packs w n g
+packs-ext w n f g h =
+    tabulate-ext n (λ k. num w f (w * k)) (λ k. num w g (w * k))
+    (λ k l. num-ext w f g (w * k) (w * k) (λ j m. h (w * k + j) (below w n k j l m)))
+
+-- w bits from any bit on, out of the two elements that hold them: no bit is taken one by one
+pub num-window : (w : ℕ) (s : List ℕ) (i a b : ℕ) → 0 < w → a < 2 ^ w → b < 2 ^ w → a ≡ getD s (i / w) 0 → b ≡ getD s (i / w + 1) 0
+    → (a * 2 ^ w + b) / 2 ^ (w - i % w) % 2 ^ w ≡ num w (bitOf w s) i
+num-window w s i a b p ha hb ea eb =
+    let f = bitOf w s in
+    let q = i / w in
+    let r = i % w in
+    let m : r < w = mod-lt i p in
+    let next : w * (q + 1) ≡ w * q + w = mul-add w q 1 ∙ rw mul-one in
+    let top : a ≡ num w f (w * q) = ea ∙ sym (num-bitOf w s q (rw ea at ha)) in
+    let low : b ≡ num w f (w * q + w) = eb ∙ sym (num-bitOf w s (q + 1) (rw eb at hb)) ∙ ap (num w f) next in
+    let whole : a * 2 ^ w + b ≡ num (w + w) f (w * q) = rw (top, low) (sym (num-split w w f (w * q))) in
+    let cut : w + w ≡ (r + w) + (w - r) = omega arith in
+    rw (whole, cut, num-front (r + w) (w - r) f (w * q) (bitOf-lt w s), num-back r w f (w * q) (bitOf-lt w s), div-add-mod)
