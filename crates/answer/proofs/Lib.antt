@@ -1,0 +1,3 @@
+-- The laws of `specs/`.
+pub mod Table
+pub mod Meets

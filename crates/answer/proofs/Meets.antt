@@ -1,0 +1,33 @@
+-- The laws of `Outcome` and `written`. Assumes nothing.
+use mathlib.Core.Path.{_≡_, sym, ap, _∙_}
+use borrow.Author.Tests.{eq-eqb, ne-eqb}
+use Rattle.answer.specs.Numbers.{allDone}
+use Rattle.answer.specs.Outcomes.{Outcome, written}
+use Rattle.answer.specs.declared.Answer.{Answer}
+
+-- ONE ANSWER: two outcomes that meet a contract at one entry are equal
+pub only-outcome : {A B : Type 0} {says : A} {leaves : B} {r r′ : A} {out out′ : B} → Outcome says leaves r out → Outcome says leaves r′ out′ → (r ≡ r′) × (out ≡ out′)
+only-outcome p q = (p .told ∙ sym (q .told), p .kept ∙ sym (q .kept))
+
+-- the same of a function that writes to nothing
+pub only-answer : {A : Type 0} {says r r′ : A} → r ≡ says → r′ ≡ says → r ≡ r′
+only-answer p q = p ∙ sym q
+
+pub written-done : {B : Type 0} (a : Answer) (new old : B) → a .number ≡ allDone → written a new old ≡ new
+unfolding written
+written-done a new old h = rw (eq-eqb (a .number) allDone h)
+
+pub written-refused : {B : Type 0} (a : Answer) (new old : B) → (a .number ≡ allDone → ⊥) → written a new old ≡ old
+unfolding written
+written-refused a new old h = rw (ne-eqb (a .number) allDone h)
+
+-- the two ways to meet a contract: done, with the new contents, or refused, with the contents as they were
+pub meets-done : {B : Type 0} {says r : Answer} {new out : B} (old : B) → r ≡ says → r .number ≡ allDone → out ≡ new → Outcome says (written says new old) r out
+meets-done {B} {says} {r} {new} {out} old e h p =
+    record { told = e; kept = p ∙ sym (written-done says new old (ap (λ (x : Answer). x .number) (sym e) ∙ h)) }
+
+pub meets-refused : {B : Type 0} {says r : Answer} {old : B} (new : B) → r ≡ says → (r .number ≡ allDone → ⊥) → Outcome says (written says new old) r old
+meets-refused {B} {says} {r} {old} new e h =
+    record { told = e; kept = sym (written-refused says new old (λ z. h (ap (λ (x : Answer). x .number) e ∙ z))) }
+
+pub ruleset meets = (meets-done, meets-refused)

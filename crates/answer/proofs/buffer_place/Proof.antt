@@ -1,0 +1,14 @@
+-- `answer::buffer_place` meets its contract. Assumes nothing.
+use mathlib.Core.Path.{refl}
+use Rattle.answer.specs.Rows.{bufferPlace}
+use Rattle.answer.proofs.buffer_place.Statement.{statement}
+use Rattle.answer.proofs.buffer_place.Tie as tie
+use Rattle.answer.proofs.buffer_place.Reads as reads
+use Rattle.answer.proofs.buffer_place.Lts as lts
+
+returns : tie.Need-returns
+unfolding bufferPlace
+returns c = refl
+
+pub buffer-place-spec : {M : Type 1} → statement M
+buffer-place-spec = tie.close (tie.spec returns)

@@ -1,0 +1,4 @@
+-- What every entry point hands back, and the rule by which it is chosen.
+pub mod Numbers
+pub mod Rows
+pub mod Outcomes

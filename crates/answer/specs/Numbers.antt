@@ -1,0 +1,42 @@
+-- Document 01, "Numbers handed back": the table's numbers, named once. Assumes nothing: these are definitions.
+use Prim.Native.Nat.{ℕ}
+
+-- done
+abbrev pub allDone : ℕ
+allDone = 0
+
+-- a number is outside its stated set
+abbrev pub outsideSet : ℕ
+outsideSet = 1
+
+-- a buffer's length is not the stated one
+abbrev pub wrongLength : ℕ
+wrongLength = 2
+
+-- a spare bit is not zero
+abbrev pub spareBit : ℕ
+spareBit = 3
+
+-- reading: a word beyond repair; its place is the word
+abbrev pub beyondRepair : ℕ
+beyondRepair = 4
+
+-- reading: a filler word not zero after repair; its place is the word
+abbrev pub fillerNotZero : ℕ
+fillerNotZero = 5
+
+-- reading: MBAS not the expected number; its place is the FEC block of the capture
+abbrev pub wrongMbas : ℕ
+wrongMbas = 6
+
+-- reading: CRC wrong; its place is the FEC block of the capture
+abbrev pub wrongCrc : ℕ
+wrongCrc = 7
+
+-- reading: pad not zero; its place is the super frame
+abbrev pub padNotZero : ℕ
+padNotZero = 8
+
+-- edit: a word to be listed fails a check; its place is the word
+abbrev pub listedFails : ℕ
+listedFails = 9

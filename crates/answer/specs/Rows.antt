@@ -1,0 +1,76 @@
+-- Document 01, "Numbers handed back": "If several apply, the smallest number, then the smallest place. .. A refusal .. count is 0."
+-- A call's table is the list of its rows, in the order of their numbers. Assumes nothing: these are definitions.
+use Prim.Native.Nat.{ℕ, zero, suc, _≤_, _<_}
+use mathlib.Core.Bool.{Bool, true, false, cond, _&&_, _||_}
+use mathlib.Core.Path.{_≡_}
+use mathlib.Core.Logic.{_⊎_}
+use mathlib.Core.List.{List, [], _∷_}
+use lib.Dec.{ltb, eqb}
+use lib.ListN.{length}
+use Rattle.bits.specs.Loops.{first}
+use Rattle.answer.specs.Numbers.{allDone}
+use Rattle.answer.specs.declared.Answer.{Answer}
+
+-- the two kinds of answer
+abbrev pub done : ℕ → Answer
+done c = record { number = allDone; place = 0; count = c }
+
+abbrev pub refused : ℕ → ℕ → Answer
+refused k p = record { number = k; place = p; count = 0 }
+
+-- a row of the table: its number, how many places there are, and whether it holds at a place
+pub record Row : Type 0 where
+  pub number : ℕ
+  pub places : ℕ
+  pub holds : ℕ → Bool
+
+-- the first row that holds anywhere, at its first place; where none does, the call is done, with the count c
+unfoldable pub answerOf : List Row → ℕ → Answer
+answerOf [] c = done c
+answerOf (r ∷ rows) c =
+    cond (ltb (first (r .holds) (r .places)) (r .places)) (refused (r .number) (first (r .holds) (r .places))) (answerOf rows c)
+
+-- a row that holds as a whole, at place 0
+abbrev pub whole : ℕ → Bool → Row
+whole k b = record { number = k; places = 1; holds = λ p. b }
+
+-- the place of numbers 2 and 3 where lent buffer i, counted from 1, is the first at fault. Document 01: place 0
+unfoldable pub bufferPlace : ℕ → ℕ
+bufferPlace i = 0
+
+-- whether one of the buffers from i on is at fault and has its place at p; bs says of each buffer whether it is at fault
+unfoldable pub faultAt : List Bool → ℕ → ℕ → Bool
+faultAt [] i p = false
+faultAt (b ∷ bs) i p = b && eqb p (bufferPlace i) || faultAt bs (suc i) p
+
+-- a row about the lent buffers, in the order in which document 01 names them
+abbrev pub buffers : ℕ → List Bool → Row
+buffers k bs = record { number = k; places = suc (length bs); holds = faultAt bs 1 }
+
+-- ---- what the rule means, without the order of a list
+
+-- row r has number k and holds at place p
+pub record HoldsAt (r : Row) (k p : ℕ) : Type 0 where
+  pub number-is : r .number ≡ k
+  pub within : p < r .places
+  pub holds-there : r .holds p ≡ true
+
+-- some row of the table has number k and holds at place p
+abbrev pub Applies : List Row → ℕ → ℕ → Type 0
+Applies [] k p = ⊥
+Applies (r ∷ rows) k p = HoldsAt r k p ⊎ Applies rows k p
+
+-- number k at place p is not after number j at place q: a smaller number, or the same number and no larger place
+pub data NotAfter (k p j q : ℕ) : Type 0 where
+  number : k < j → NotAfter k p j q
+  place : k ≡ j → p ≤ q → NotAfter k p j q
+
+-- number k applies at place p, and nothing smaller applies
+pub record Least (rows : List Row) (k p : ℕ) : Type 0 where
+  pub applies : Applies rows k p
+  pub least : (j q : ℕ) → Applies rows j q → NotAfter k p j q
+
+-- the rows' numbers rise, from above a
+unfoldable pub rising : ℕ → List Row → Bool
+rising a [] = true
+rising a (r ∷ rows) = ltb a (r .number) && rising (r .number) rows
