@@ -2,10 +2,11 @@
 use Prim.Native.Nat.{ℕ, zero, suc, _+_, _-_, _*_, _/_, _%_, _^_, _≤_, _<_}
 use mathlib.Core.Path.{_≡_, sym, ap, _∙_}
 use mathlib.Core.List.{List}
-use native.Mathlib.Nat.{add-zero, mul-comm, zero-add, div-eq-of-lt, mod-lt, mul-add-div, mul-add-mod-self-left, mod-eq-of-lt, sub-self, div-one, div-lt-iff-lt-mul, div-add-mod, zero-mul, zero-div, mul-le-mul-left, mul-add, mul-one}
+use native.Mathlib.Nat.{add-zero, mul-comm, zero-add, div-eq-of-lt, mod-lt, mul-add-div, mul-add-mod-self-left, mod-eq-of-lt, sub-self, div-one, div-lt-iff-lt-mul, div-add-mod, zero-mul, zero-div, mul-le-mul-left, mul-add, mul-one, add-comm, add-assoc}
 use native.Mathlib.Omega.{arith}
-use lib.ListN.{length, getD, List·getD-eq-default}
-use Rattle.bits.specs.Bits.{tabulate, num, digit, bitOf, packs, Bits}
+use lib.ListN.{length, getD, take, drop, List·getD-eq-default}
+use lib.Seq.{getD-take, getD-drop}
+use Rattle.bits.specs.Bits.{tabulate, num, digit, bitOf, packs, from, Bits}
 use Rattle.bits.proofs.Lists.{length-tabulate, getD-tabulate, tabulate-ext, tabulate-getD}
 use Rattle.bits.proofs.Numbers.{num-ext, num-split, num-front, num-back, digit-num, digit-lt, num-is}
 
@@ -33,6 +34,10 @@ bitOf-at w s k j h =
 pub num-bitOf : (w : ℕ) (s : List ℕ) (k : ℕ) → getD s k 0 < 2 ^ w → num w (bitOf w s) (w * k) ≡ getD s k 0
 num-bitOf w s k h = num-is w (bitOf w s) (w * k) (getD s k 0) h (λ j l. bitOf-at w s k j l)
 
+pos-of-mul : (a b c : ℕ) → c < a * b → 0 < a
+pos-of-mul zero b c h = absurd (omega (arith, rw zero-mul at h))
+pos-of-mul (suc a) b c h = omega arith
+
 pub length-packs : (w n : ℕ) (f : ℕ → ℕ) → length (packs w n f) ≡ n
 length-packs w n f = length-tabulate n (λ k. num w f (w * k))
 
@@ -43,10 +48,6 @@ bitOf-packs w n f i h l =
     let p : 0 < w = pos-of-mul w n i l in
     let q : i / w < n = div-lt-iff-lt-mul p .1 (rw mul-comm at l) in
     rw (getD-tabulate 0 n (λ k. num w f (w * k)) (i / w) q, digit-num w f (w * (i / w)) (i % w) h (mod-lt i p), div-add-mod)
-  where
-    pos-of-mul : (a b c : ℕ) → c < a * b → 0 < a
-    pos-of-mul zero b c h = absurd (omega (arith, rw zero-mul at h))
-    pos-of-mul (suc a) b c h = omega arith
 
 -- a list of w-bit elements is what its bits pack to
 pub packs-bitOf : (w : ℕ) (s : List ℕ) → ((k : ℕ) → getD s k 0 < 2 ^ w) → packs w (length s) (bitOf w s) ≡ s
@@ -77,3 +78,22 @@ num-window w s i a b p ha hb ea eb =
     let whole : a * 2 ^ w + b ≡ num (w + w) f (w * q) = rw (top, low) (sym (num-split w w f (w * q))) in
     let cut : w + w ≡ (r + w) + (w - r) = omega arith in
     rw (whole, cut, num-front (r + w) (w - r) f (w * q) (bitOf-lt w s), num-back r w f (w * q) (bitOf-lt w s), div-add-mod)
+
+-- the same, k elements further on, as a loop takes them that goes on from bit i
+pub num-window-from : (w : ℕ) (s : List ℕ) (i k a b : ℕ) → 0 < w → a < 2 ^ w → b < 2 ^ w → a ≡ getD s (i / w + k) 0 → b ≡ getD s (i / w + k + 1) 0
+    → (a * 2 ^ w + b) / 2 ^ (w - i % w) % 2 ^ w ≡ num w (from (bitOf w s) i) (w * k)
+num-window-from w s i k a b p ha hb ea eb =
+    let q : (i + w * k) / w ≡ i / w + k = ap (λ (x : ℕ). x / w) (add-comm i (w * k)) ∙ mul-add-div p k i ∙ add-comm k (i / w) in
+    let r : (i + w * k) % w ≡ i % w = ap (λ (x : ℕ). x % w) (add-comm i (w * k)) ∙ mul-add-mod-self-left w k i in
+    let e = num-window w s (i + w * k) a b p ha hb (rw q ea) (rw q eb) in
+    (rw r at e) ∙ num-ext w (bitOf w s) (from (bitOf w s) i) (i + w * k) (w * k) (λ j l. ap (bitOf w s) (add-assoc i (w * k) j))
+
+-- the bits of a part of a list are bits of the list
+pub bitOf-part : (w : ℕ) (s : List ℕ) (a n i : ℕ) → i < w * n → bitOf w (take n (drop a s)) i ≡ bitOf w s (w * a + i)
+unfolding bitOf
+bitOf-part w s a n i l =
+    let p : 0 < w = pos-of-mul w n i l in
+    let q : i / w < n = div-lt-iff-lt-mul p .1 (rw mul-comm at l) in
+    let d : (w * a + i) / w ≡ a + i / w = mul-add-div p a i in
+    let m : (w * a + i) % w ≡ i % w = mul-add-mod-self-left w a i in
+    rw (d, m, getD-take n (drop a s) (i / w) 0 q, getD-drop a s (i / w) 0)

@@ -1,11 +1,14 @@
 -- Laws of `bitXor` that the library does not have, and how xor meets digits and bits. Assumes nothing.
 use Prim.Native.Nat.{ℕ, zero, suc, _+_, _-_, _*_, _/_, _%_, _^_, _<_}
 use mathlib.Core.Path.{_≡_, refl, sym, ap, ap₂, _∙_}
+use mathlib.Core.List.{List}
 use native.Mathlib.Nat.{mod-lt, zero-lt-suc, add-zero, zero-mul, one-mul}
 use native.Mathlib.Omega.{arith}
 use lib.Arith.{bin-ind, digits-mod}
 use lib.Bits.{bitXor, differ, xor-step, xor-comm, xor-self, xor-zero-r, xor-shr, xor-mod, xor-block}
-use Rattle.bits.specs.Bits.{num, digit, bitOf, Bits}
+use lib.ListN.{getD}
+use Rattle.bits.proofs.Packing.{bitOf-lt, num-bitOf}
+use Rattle.bits.specs.Bits.{num, digit, bitOf, added, Bits}
 
 two-pos : zero < 2
 two-pos = zero-lt-suc 1
@@ -102,7 +105,7 @@ low1 : (x b : ℕ) → b < 2 → (x * 2 + b) % 2 ≡ b
 low1 x b h = omega arith
 
 -- numbers of bits: bit by bit
-pub num-xor : (w : ℕ) (f g : ℕ → ℕ) (a : ℕ) → Bits f → Bits g → bitXor (num w f a) (num w g a) ≡ num w (λ i. (f i + g i) % 2) a
+pub num-xor : (w : ℕ) (f g : ℕ → ℕ) (a : ℕ) → Bits f → Bits g → bitXor (num w f a) (num w g a) ≡ num w (added f g) a
 unfolding num
 num-xor zero f g a hf hg = refl
 num-xor (suc w) f g a hf hg =
@@ -117,3 +120,8 @@ num-xor (suc w) f g a hf hg =
       num-xor w f g a hf hg,
       differ-is (f (a + w)) (g (a + w)) p q,
     )
+
+-- lists of elements: element k of the sum
+pub element-xor : (w : ℕ) (s t : List ℕ) (k : ℕ) → getD s k 0 < 2 ^ w → getD t k 0 < 2 ^ w → bitXor (getD s k 0) (getD t k 0) ≡ num w (added (bitOf w s) (bitOf w t)) (w * k)
+element-xor w s t k hs ht =
+    ap₂ bitXor (sym (num-bitOf w s k hs)) (sym (num-bitOf w t k ht)) ∙ num-xor w (bitOf w s) (bitOf w t) (w * k) (bitOf-lt w s) (bitOf-lt w t)

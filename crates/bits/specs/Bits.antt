@@ -37,6 +37,14 @@ byteOf f k = num 8 f (8 * k)
 abbrev pub pack : ℕ → (ℕ → ℕ) → List ℕ
 pack n f = packs 8 n f
 
+-- the bits of f from bit a on
+abbrev pub from : (ℕ → ℕ) → ℕ → ℕ → ℕ
+from f a i = f (a + i)
+
+-- bit by bit, the sum without carries
+abbrev pub added : (ℕ → ℕ) → (ℕ → ℕ) → ℕ → ℕ
+added f g i = (f i + g i) % 2
+
 -- every value of f is a bit
 abbrev pub Bits : (ℕ → ℕ) → Type 0
 Bits f = (i : ℕ) → f i < 2

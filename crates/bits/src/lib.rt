@@ -1,9 +1,9 @@
 // Packed bits. Every function takes any slice and any number: past the end there are zeros.
 ghost use mathlib.Core.Path.{_≡_};
-ghost use Prim.Native.Nat.{_<_};
+ghost use Prim.Native.Nat.{_≤_};
 ghost use lib.ListN.{getD};
-ghost use Rattle.bits.specs.Bits.{num, bitAt};
-ghost use Rattle.bits.specs.Posts.{Widened};
+ghost use Rattle.bits.specs.Bits.{num, bitAt, pack, from};
+ghost use Rattle.bits.specs.Posts.{Widened, EightOf};
 
 // Byte k of the bytes s; 0 past the end.
 pub fn byte_at(s: &[u8], k: usize) -> u8
@@ -26,11 +26,31 @@ pub fn wide(x: u8) -> u32
     x as u32
 }
 
+// The eight bits that begin 8 - down bits into the byte a and go on in b.
+fn eight_of(a: u8, b: u8, down: u32) -> u8
+    requires { ⌜ down ≤ 8 ⌝ }
+    ensures { λ r. ⌜ EightOf a b down r ⌝ }
+{
+    (((wide(a) * 256 + wide(b)) >> down) % 256) as u8
+}
+
 // The eight bits from bit i on, wherever they stand; zeros past the end.
 pub fn byte_from(s: &[u8], i: usize) -> u8
     ensures { λ r. ⌜ r ≡ num 8 (bitAt (now (s .entry))) i ⌝ }
 {
     let k = i / 8;
-    let two = wide(byte_at(s, k)) * 256 + wide(byte_at(s, k + 1));
-    ((two >> (8 - i % 8)) % 256) as u8
+    eight_of(byte_at(s, k), byte_at(s, k + 1), (8 - i % 8) as u32)
+}
+
+// The sixteen bytes of the 128 bits from bit i on, wherever they stand; zeros past the end.
+pub fn word_from(s: &[u8], i: usize) -> [u8; 16]
+    ensures { λ r. ⌜ r ≡ pack 16 (from (bitAt (now (s .entry))) i) ⌝ }
+{
+    let first = i / 8;
+    let down = (8 - i % 8) as u32;
+    let mut r = [0u8; 16];
+    for k in 0..16 {
+        r[k] = eight_of(byte_at(s, first + k), byte_at(s, first + k + 1), down);
+    }
+    r
 }

@@ -1,0 +1,6 @@
+-- The laws of `specs/`.
+pub mod SizeLaws
+pub mod FecLaws
+pub mod FrameLaws
+pub mod SlotLaws
+pub mod WordLaws

@@ -1,0 +1,6 @@
+-- Document 01 from client bits to the bytes of a capture, and back, each layer a function of an index.
+pub mod Sizes
+pub mod Fec
+pub mod Frames
+pub mod Slots
+pub mod Words

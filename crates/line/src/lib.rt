@@ -1,0 +1,90 @@
+// The line: total functions for the layers of document 01 that coding, reading and editing share.
+ghost use mathlib.Core.Path.{_≡_};
+ghost use Prim.Native.Nat.{_<_};
+ghost use lib.ListN.{getD};
+ghost use Rattle.bits.specs.Bits.{bitAt, pack, added};
+ghost use Rattle.line.specs.Fec.{mbasAllowed, mbasOf};
+ghost use Rattle.line.specs.Slots.{delay, elementIn, holds};
+ghost use Rattle.line.specs.Words.{symbolPlace, wordIn};
+
+// Whether a caller may count the FEC blocks from m0 on.
+pub fn mbas_allowed(m0: u64) -> bool
+    ensures { λ r. ⌜ r ≡ mbasAllowed m0 ⌝ }
+{
+    m0 < 64
+}
+
+// The number that FEC block t carries.
+pub fn mbas(m0: u64, t: u64) -> u8
+    ensures { λ r. ⌜ r ≡ mbasOf m0 t ⌝ }
+{
+    ((m0 % 64 + t % 64) % 64) as u8
+}
+
+// How many words an element waits, by the row of its word.
+fn wait(w: usize) -> usize
+    ensures { λ r. ⌜ r ≡ delay w ⌝ }
+{
+    32 * (15 - w % 16)
+}
+
+// The element that word w holds, if it holds one.
+pub fn element_in(w: usize) -> usize
+    ensures { λ r. ⌜ r ≡ elementIn w ⌝ }
+{
+    let d = wait(w);
+    if w < d {
+        return 0;
+    }
+    w - d
+}
+
+// Whether word w of n super frames holds an element; otherwise it is filler.
+pub fn holds_element(n: usize, w: usize) -> bool
+    ensures { λ r. ⌜ r ≡ holds n w ⌝ }
+{
+    let d = wait(w);
+    if w < d {
+        return false;
+    }
+    (w - d) / 10976 < n
+}
+
+// Bit by bit, the sum of two words without carries.
+pub fn sum(a: [u8; 16], b: [u8; 16]) -> [u8; 16]
+    ensures { λ r. ⌜ r ≡ pack 16 (added (bitAt a) (bitAt b)) ⌝ }
+{
+    let mut r = [0u8; 16];
+    for k in 0..16 {
+        r[k] = a[k] ^ b[k];
+    }
+    r
+}
+
+// Symbol k of word w of a capture; 0 past the end. No sum here can overflow, however large w is.
+fn symbol(capture: &[u8], w: usize, k: usize) -> u8
+    requires { ⌜ k < 16 ⌝ }
+    ensures { λ r. ⌜ r ≡ getD (now (capture .entry)) (symbolPlace w k) 0 ⌝ }
+{
+    let g = w / 8;
+    if capture.len() / 128 < g {
+        return 0;
+    }
+    let group = 128 * g;
+    let at = 8 * k + w % 8;
+    if capture.len() - group <= at {
+        return 0;
+    }
+    capture[group + at]
+}
+
+// The sixteen bytes of word w of a capture; zeros past the end.
+pub fn word_in(capture: &[u8], w: usize) -> [u8; 16]
+    ensures { λ r. ⌜ r ≡ wordIn (now (capture .entry)) w ⌝ }
+{
+    let mut r = [0u8; 16];
+    for k in 0..16 {
+        r[k] = symbol(capture, w, k);
+    }
+    r
+}
