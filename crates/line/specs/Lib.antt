@@ -4,3 +4,4 @@ pub mod Fec
 pub mod Frames
 pub mod Slots
 pub mod Words
+pub mod Captures

@@ -1,0 +1,33 @@
+-- The steps on the way from an element to its word, as the code takes them. Assumes nothing: these are definitions.
+use Prim.Native.Nat.{ℕ, _+_, _-_, _*_, _/_, _%_, _<_}
+use mathlib.Core.Bool.{cond}
+use mathlib.Core.Path.{_≡_}
+use mathlib.Core.List.{List}
+use lib.Dec.{ltb}
+use lib.ListN.{getD, length}
+use Rattle.bits.specs.Bits.{digit, Bytes}
+use Rattle.line.specs.Sizes.{elementBits, superElements, infoLength, parityLength}
+use Rattle.line.specs.Fec.{blockCrc}
+use Rattle.line.specs.Frames.{superOf}
+
+-- two bit functions agree on the 119 bits of an element
+abbrev pub Agree : (ℕ → ℕ) → (ℕ → ℕ) → Type 0
+Agree f g = (i : ℕ) → i < elementBits → f i ≡ g i
+
+-- bit i of element e before it is scrambled
+unfoldable pub plainBit : (ℕ → ℕ → ℕ) → ℕ → ℕ → ℕ
+plainBit F e i = superOf F (e / superElements) (elementBits * (e % superElements) + i)
+
+-- the element that holds a block's CRC and MBAS: 32 bits, six bits, then parity
+unfoldable pub tailBit : ℕ → ℕ → (ℕ → ℕ) → ℕ → ℕ
+tailBit crc mbas parity i = cond (ltb i 32) (digit 32 crc i) (cond (ltb i 38) (digit 6 mbas (i - 32)) (parity (i - 38)))
+
+-- the CRCs of the FEC blocks of N super frames
+pub record Crcs (N : ℕ) (info crcs : List ℕ) : Type 0 where
+  pub is : (t : ℕ) → t < 5 * N → getD crcs t 0 ≡ blockCrc info t
+
+-- what a granted call has shown of its numbers and buffers
+pub record Granted (N : ℕ) (info par : List ℕ) : Type 0 where
+  pub few : N < 9
+  pub information : length info ≡ infoLength N
+  pub parity : length par ≡ parityLength N
