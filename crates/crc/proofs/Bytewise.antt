@@ -98,8 +98,8 @@ bytes-upto s r (suc k) hs h =
     ∙ sym (ap (remFrom r (bitAt s)) e ∙ rem-add r (bitAt s) (8 * k) 8)
 
 -- BYTES: with the right table, what the bits of the bytes leave
-pub bytes-rem : (s : List ℕ) (start : ℕ) → Bytes s → start < 2 ^ 32 → remBy entries start s ≡ remFrom start (bitAt s) (8 * length s)
-bytes-rem s start hs h = bytes-upto s start (length s) hs h
+pub bytes-rem : (t s : List ℕ) (start : ℕ) → t ≡ entries → Bytes s → start < 2 ^ 32 → remBy t start s ≡ remFrom start (bitAt s) (8 * length s)
+bytes-rem t s start e hs h = ap (λ (x : List ℕ). remBy x start s) e ∙ bytes-upto s start (length s) hs h
 
 -- ---- the first 32 bits complemented
 
@@ -170,11 +170,11 @@ opens f n b = ⊎-elim (λ z. opens-few f n b (omega arith)) (λ p. more (omega 
         ∙ ap (remFrom (opening 32) f) e ∙ opens-more f (n - 32) b ∙ ap (remOf (opened f)) (sym e)
 
 -- CRC: with the right table, the CRC of the bits of the bytes, however many they are
-pub bytes-crc : (s : List ℕ) → Bytes s → crcBy entries s ≡ crcOf (8 * length s) (bitAt s)
+pub bytes-crc : (t s : List ℕ) → t ≡ entries → Bytes s → crcBy t s ≡ crcOf (8 * length s) (bitAt s)
 unfolding crcOf
-bytes-crc s hs =
+bytes-crc t s e hs =
     let n = 8 * length s in
-    ap (bitXor ones) (bytes-rem s (opening n) hs (opening-lt n) ∙ opens (bitAt s) n (bitOf-lt 8 s))
+    ap (bitXor ones) (bytes-rem t s (opening n) e hs (opening-lt n) ∙ opens (bitAt s) n (bitOf-lt 8 s))
 
 -- a power that a u64 holds
 pub power : (k : ℕ) → k ≤ 32 → 1 * 2 ^ k % 2 ^ 64 ≡ 2 ^ k

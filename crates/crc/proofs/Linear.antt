@@ -106,9 +106,13 @@ pub zeros-behind : (f : ℕ → ℕ) (n m : ℕ) → ((i : ℕ) → i < m → f 
 zeros-behind f n m h =
     join f n m ∙ ap (bitXor (shiftN m (remOf f n))) (rem-ext 0 (λ i. f (n + i)) zeros m h ∙ rem-zeros m) ∙ xor-zero-r (shiftN m (remOf f n))
 
+-- k bits alone, behind n and before m zero bits: what they leave, times x^m
+pub alone : (d : ℕ → ℕ) (n k m : ℕ) → ((i : ℕ) → i < n → d i ≡ 0) → ((i : ℕ) → i < m → d (n + (k + i)) ≡ 0)
+    → remOf d (n + (k + m)) ≡ shiftN m (remOf (λ i. d (n + i)) k)
+alone d n k m before behind = zeros-before d n (k + m) before ∙ zeros-behind (λ i. d (n + i)) k m behind
+
 -- CHANGED BITS: a change d of k bits behind n and before m others changes the remainder by what those k bits leave, times x^m
 pub changed : (f d : ℕ → ℕ) (n k m : ℕ) → Bits f → Bits d → ((i : ℕ) → i < n → d i ≡ 0) → ((i : ℕ) → i < m → d (n + (k + i)) ≡ 0)
     → remOf (λ i. (f i + d i) % 2) (n + (k + m)) ≡ bitXor (remOf f (n + (k + m))) (shiftN m (remOf (λ i. d (n + i)) k))
 changed f d n k m hf hd before behind =
-    linear f d (n + (k + m)) hf hd
-    ∙ ap (bitXor (remOf f (n + (k + m)))) (zeros-before d n (k + m) before ∙ zeros-behind (λ i. d (n + i)) k m behind)
+    linear f d (n + (k + m)) hf hd ∙ ap (bitXor (remOf f (n + (k + m)))) (alone d n k m before behind)

@@ -2,7 +2,8 @@
 use Prim.Native.Nat.{ℕ, zero, suc, _+_, _-_, _%_, _≤_, _<_}
 use mathlib.Core.Path.{_≡_, refl, sym, ap, _∙_}
 use mathlib.Core.List.{[], _∷_}
-use native.Mathlib.Nat.{add-zero, zero-add, add-suc, mod-lt}
+use mathlib.Core.Logic.{⊎-elim}
+use native.Mathlib.Nat.{add-zero, zero-add, add-suc, mod-lt, eq-or-lt-of-le}
 use native.Mathlib.Omega.{arith}
 use lib.ListN.{getD, replicate, getD-replicate}
 use Rattle.bits.specs.Bits.{tabulate, num, pack, Bits}
@@ -47,6 +48,24 @@ hist-lt (suc n) (suc i) = hist-lt n i
 pub o-lt : Bits o
 unfolding o
 o-lt n = hist-lt n 15
+
+-- a sequence that begins with sixteen ones and obeys the rule is this one: the document leaves no other
+module _ (p : ℕ → ℕ) (first : (n : ℕ) → n < 16 → p n ≡ 1) (rule : (n : ℕ) → p (n + 16) ≡ (p (n + 15) + p (n + 13) + p (n + 4) + p n) % 2) where
+  -- where sixteen agree, the next does
+  newest : (n : ℕ) → ((j : ℕ) → j < 16 → p (n + j) ≡ o (n + j)) → p (n + 16) ≡ o (n + 16)
+  newest n h =
+      let z : p n ≡ o n = ap p (sym (add-zero n)) ∙ h 0 (omega arith) ∙ ap o (add-zero n) in
+      rw (rule n, h 15 (omega arith), h 13 (omega arith), h 4 (omega arith), z) (sym (o-step n))
+
+  -- sixteen agree from any n on
+  window : (n j : ℕ) → j < 16 → p (n + j) ≡ o (n + j)
+  window zero j h = rw zero-add (first j h ∙ sym (o-first j h))
+  window (suc n) j h =
+      let e : suc n + j ≡ n + suc j = omega arith in
+      rw e (⊎-elim (λ q. rw q (newest n (window n))) (λ l. window n (suc j) l) (eq-or-lt-of-le h))
+
+  pub only-o : (n : ℕ) → p n ≡ o n
+  only-o n = rw (add-zero n) at (window n 0 (omega arith))
 
 -- the first 24 bits are FF FF 4E, by computing
 pub o-24 : pack 3 o ≡ 0xFF ∷ 0xFF ∷ 0x4E ∷ []

@@ -20,7 +20,7 @@ fn next(s: u32) -> u32
     (s * 2 + (s % 2 + s / 4 % 2 + s / 2048 % 2 + s / 32768 % 2) % 2) % 65536
 }
 
-// The register goes on by a byte.
+// The register goes on by a byte: the one place that says how.
 fn next8(s: u32) -> u32
     requires { ⌜ s < 2 ^ 16 ⌝ }
     ensures { λ r. ⌜ Steps 8 s r ⌝ }
@@ -39,7 +39,7 @@ pub fn fill(out: &mut [u8])
     }
 }
 
-// The sequence of a whole super frame.
+// The sequence of a whole super frame. Who has a buffer lends it to `fill` and spares a copy of the array.
 pub fn sequence() -> [u8; FRAME_BYTES]
     ensures { λ r. ⌜ r ≡ pack frameBytes o ⌝ }
 {
