@@ -1,0 +1,6 @@
+-- The laws of `specs/`, for every crate above.
+pub mod Linear
+pub mod Changes
+pub mod Divide
+pub mod Bytewise
+pub mod Unique

@@ -1,0 +1,19 @@
+-- What it means that `remOf` is the remainder of a division (document 01, "remainder by x^32+x^26+..+1"): products without carries,
+-- the generator and the quotient. The law is `division` of proofs/Divide.antt. Assumes nothing: these are definitions.
+use Prim.Native.Nat.{ℕ, zero, suc, _+_, _*_, _%_, _^_}
+use lib.Bits.{bitXor}
+use Rattle.bits.specs.Bits.{digit}
+use Rattle.crc.specs.Crc.{poly, remOf}
+
+-- the generator: x^32 and what it leaves
+abbrev pub generator : ℕ
+generator = 2 ^ 32 + poly
+
+-- the polynomial whose n coefficients are q 0, .., q (n - 1), the first of the highest power, times the polynomial g: Horner's rule, no carries
+unfoldable pub times : (ℕ → ℕ) → ℕ → ℕ → ℕ
+times q zero g = zero
+times q (suc n) g = bitXor (times q n g * 2) (q n * g)
+
+-- the quotient's coefficients: 1 where, bit n taken in, x^32 stands on top and the generator is taken away
+unfoldable pub quotient : (ℕ → ℕ) → ℕ → ℕ
+quotient f n = (digit 32 (remOf f n) 0 + f n) % 2

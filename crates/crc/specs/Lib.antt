@@ -1,0 +1,4 @@
+-- What the contracts of `crc`, and of every crate above it, are stated in.
+pub mod Crc
+pub mod Division
+pub mod ByBytes

@@ -1,0 +1,4 @@
+-- The laws of `specs/`, for every crate above.
+pub mod Rule
+pub mod Stepping
+pub mod Unique
