@@ -1,5 +1,5 @@
 -- The laws of `sumTo` and of sums of columns: one term more, parts, blocks, and that they are linear. Assumes nothing.
-use Prim.Native.Nat.{ℕ, zero, suc, _+_, _*_, _%_, _^_, _<_}
+use Prim.Native.Nat.{ℕ, zero, suc, _+_, _*_, _%_, _^_, _<_, _≤_}
 use mathlib.Core.Bool.{cond}
 use mathlib.Core.Path.{_≡_, refl, sym, ap, ap₂, _∙_}
 use native.Mathlib.Nat.{add-zero, add-suc, mul-zero, mul-suc, zero-mul, one-mul}
@@ -60,6 +60,21 @@ sum-blocks f m zero = ap (sumTo f) (mul-zero m)
 sum-blocks f m (suc n) =
     ap (sumTo f) (mul-suc m n) ∙ sum-split f (m * n) m
     ∙ ap (λ (x : ℕ). bitXor x (sumTo (λ j. f (m * n + j)) m)) (sum-blocks f m n)
+
+-- a loop that adds up the first n terms: k are in
+pub record Summed (f : ℕ → ℕ) (n k acc : ℕ) : Type 0 where
+  pub within : k ≤ n
+  pub is : acc ≡ sumTo f k
+
+pub summed-none : {f : ℕ → ℕ} {n : ℕ} → Summed f n 0 0
+unfolding sumTo
+summed-none = record { within = omega arith; is = refl }
+
+pub summed-more : {f : ℕ → ℕ} {n k acc v : ℕ} → Summed f n k acc → k < n → v ≡ f k → Summed f n (k + 1) (bitXor acc v)
+summed-more {f} {n} {k} {acc} {v} e h p = record { within = omega arith; is = ap₂ bitXor (e .is) p ∙ sym (sum-more f k) }
+
+pub summed-all : {f : ℕ → ℕ} {n k acc : ℕ} → Summed f n k acc → n ≤ k → acc ≡ sumTo f n
+summed-all {f} {n} {k} {acc} e h = let q : k ≡ n = omega (arith, e .within) in e .is ∙ ap (sumTo f) q
 
 -- ---- sums of columns
 

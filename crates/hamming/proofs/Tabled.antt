@@ -34,6 +34,10 @@ checks-bytes w =
 
 -- ---- by tables
 
+-- an entry of a table, by equations
+pub entry-is : (f : ℕ → ℕ) (n : ℕ) (t : List ℕ) (i c : ℕ) → t ≡ tabulate n f → i ≡ c → c < n → getD t i 0 ≡ f c
+entry-is f n t i c e p h = ap₂ (λ (l : List ℕ) (k : ℕ). getD l k 0) e p ∙ getD-tabulate 0 n f c h
+
 byte-entry : (k x : ℕ) → k < 16 → x < 256 → getD byteTable (256 * k + x) 0 ≡ byteSum k x
 unfolding byteEntry
 byte-entry k x h l =
@@ -51,6 +55,11 @@ by-checks t w e b =
 pub checks-alone : (f : ℕ → ℕ) → Bits f → checksOf (joinedWord f 0) ≡ elementSum f
 unfolding tailSum sumTo taken digit columnOf columns elementOrder checkOrder _to_ from g s7 s _and_ _or_ neg
 checks-alone f b = checks-joined f 0 b ∙ xor-zero-r (elementSum f)
+
+-- so the code word is closed by what these add
+pub word-closed : (f : ℕ → ℕ) → Bits f → joinedWord f (tailOf (checksOf (joinedWord f 0))) ≡ coded f
+unfolding coded
+word-closed f b = ap (λ (c : ℕ). joinedWord f (tailOf c)) (checks-alone f b)
 
 pub by-word : (t tails e : List ℕ) → t ≡ byteTable → tails ≡ tailTable → wordBy t tails e ≡ wordOf e
 unfolding wordBy coded

@@ -21,7 +21,7 @@ unfoldable pub repairOf : List ℕ → Repaired
 repairOf w = repairAt w (checksOf w) (positionOf (checksOf w))
 
 -- document 01's numbers: 4 is a word beyond repair
-unfoldable pub numberOf : Found → ℕ
+abbrev pub numberOf : Found → ℕ
 numberOf Clean = 0
 numberOf (Turned i) = 0
 numberOf Beyond = 4

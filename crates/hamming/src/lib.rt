@@ -124,6 +124,13 @@ fn index(c: u16) -> usize
     c as usize
 }
 
+// Entry k of a table; 0 past the end.
+fn entry_at(t: &[u16], k: usize) -> u16
+    ensures { λ r. ⌜ r ≡ getD (now (t .entry)) k 0 ⌝ }
+{
+    if k < t.len() { t[k] } else { 0 }
+}
+
 // The sum of a table's entries for the bytes of a word: with the table of `byte_table`, the nine checks.
 pub fn checks_by(t: &[u16; 4096], w: [u8; 16]) -> u16
     ensures { λ r. ⌜ r ≡ sumBy (now (t .entry)) w ⌝ }
@@ -151,7 +158,8 @@ fn tail(c: u16) -> u16
     requires { ⌜ c < 512 ⌝ }
     ensures { λ r. ⌜ r ≡ tailOf c ⌝ }
 {
-    TAILS[index(c)]
+    let t = tail_table();
+    t[index(c)]
 }
 
 // The code word of an element: its bits 0..118, and the nine that make all checks zero. Bits 119..127 of the argument are ignored.
@@ -165,12 +173,7 @@ pub fn encode(e: [u8; 16]) -> [u8; 16]
 pub fn encode_by(t: &[u16; 4096], tails: &[u16; 512], e: [u8; 16]) -> [u8; 16]
     ensures { λ r. ⌜ r ≡ wordBy (now (t .entry)) (now (tails .entry)) e ⌝ }
 {
-    let c = index(checks_by(t, join(e, 0)));
-    if c < 512 {
-        join(e, tails[c] % 512)
-    } else {
-        join(e, 0)
-    }
+    join(e, entry_at(tails, index(checks_by(t, join(e, 0)))) % 512)
 }
 
 // The bit whose column c is, for one word.
@@ -178,7 +181,8 @@ fn position(c: u16) -> u8
     requires { ⌜ c < 512 ⌝ }
     ensures { λ r. ⌜ r ≡ positionOf c ⌝ }
 {
-    POSITIONS[index(c)]
+    let t = position_table();
+    t[index(c)]
 }
 
 // The word with bit i turned.
@@ -227,10 +231,5 @@ pub fn repair_by(t: &[u16; 4096], positions: &[u8; 512], w: [u8; 16]) -> Repaire
     ensures { λ r. ⌜ r ≡ repairBy (now (t .entry)) (now (positions .entry)) w ⌝ }
 {
     let c = checks_by(t, w);
-    let k = index(c);
-    if k < 512 {
-        repair_at(w, c, positions[k])
-    } else {
-        repair_at(w, c, 0)
-    }
+    repair_at(w, c, bits::byte_at(positions, index(c)))
 }

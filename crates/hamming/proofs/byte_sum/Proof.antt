@@ -1,3 +1,15 @@
+use Prim.Native.Nat.{ℕ, _+_, _-_, _*_}
+use mathlib.Core.List.{List}
+use lib.ListN.{getD}
+use Rattle.bits.proofs.Numbers.{digit-lt}
+use mathlib.Core.Path.{_≡_, refl, sym, ap, ap₂, _∙_}
+use native.Mathlib.Omega.{arith}
+use borrow.Author.Needs.{needs}
+use Rattle.bits.specs.Bits.{digit}
+use Rattle.hamming.specs.Columns.{columns, columnOf}
+use Rattle.hamming.specs.Code.{taken}
+use Rattle.hamming.specs.Lent.{byteSum, byteEntry, entryAt, sumBy}
+use Rattle.hamming.proofs.Sums.{Summed, summed-none, summed-more, summed-all}
 use Rattle.hamming.proofs.byte_sum.Statement.{statement}
 use Rattle.hamming.proofs.byte_sum.Tie as tie
 use Rattle.hamming.proofs.byte_sum.Reads as reads
@@ -6,54 +18,51 @@ use Rattle.hamming.proofs.digit_of.Reads as digit-of-reads
 use Rattle.hamming.proofs.times.Reads as times-reads
 
 abbrev Inv-loop : tie.InvT-loop
-Inv-loop t k x sum₀ j₀ sum j = ?
+Inv-loop t k x sum₀ j₀ sum j = Summed (taken (8 * k) (digit 8 x)) 8 j sum
 
 abbrev μ-loop : tie.MeasureT-loop
-μ-loop t k x sum₀ j₀ sum j = ?
+μ-loop t k x sum₀ j₀ sum j = 8 - j
 
--- src/lib.rt:71:5
 loop-holds : tie.Need-loop-holds Inv-loop μ-loop
-loop-holds c = ?
+loop-holds c = summed-none
 
--- src/lib.rt:72:27
 digit-of-requires : tie.Need-digit-of-requires Inv-loop μ-loop
-digit-of-requires c κs = ?
+digit-of-requires c κs = search needs
 
--- src/lib.rt:72:45
 mul-times : tie.Need-mul-times Inv-loop μ-loop
-mul-times c = ?
+mul-times c = search needs
 
--- src/lib.rt:72:45
 add-times : tie.Need-add-times Inv-loop μ-loop
-add-times c = ?
+add-times c = search needs
 
--- src/lib.rt:72:43
 mul-times-2 : tie.Need-mul-times-2 Inv-loop μ-loop
-mul-times-2 c = ?
+mul-times-2 c = search needs
 
--- src/lib.rt:72:43
 element-copy-out-times : tie.Need-element-copy-out-times Inv-loop μ-loop
-element-copy-out-times c = ?
+element-copy-out-times c = search needs
 
--- src/lib.rt:72:21
 times-requires : tie.Need-times-requires Inv-loop μ-loop
-times-requires c κs = ?
+times-requires c κs =
+    let l = c .before .before .before in rw (c .before .digit-of .ensures) (digit-lt 8 (l .before .args .x) (l .loop .j))
 
--- src/lib.rt:71:9
 add-j : tie.Need-add-j Inv-loop μ-loop
-add-j c = ?
+add-j c = search needs
 
--- src/lib.rt:71:5
 loop-less : tie.Need-loop-less Inv-loop μ-loop
-loop-less c = ?
+loop-less c = search needs
 
--- src/lib.rt:71:5
 loop-again : tie.Need-loop-again Inv-loop μ-loop
-loop-again c = ?
+unfolding taken columnOf
+loop-again c =
+    let l = c .before .before .before .before in
+    let a = l .before in
+    summed-more (l .loop .inv) (c .before .before .before .loop-test .taken)
+    (c .times .ensures
+    ∙ ap₂ _*_ (c .before .before .digit-of .ensures) (ap (λ (t : List ℕ). getD t (8 * a .args .k + l .loop .j) 0) (a .pre .0)))
 
--- src/lib.rt:66:1
 returns : tie.Need-returns Inv-loop μ-loop
-returns c = ?
+unfolding byteSum
+returns c = summed-all (c .before .loop .inv) (c .loop-test .left)
 
 pub byte-sum-spec : {M : Type 1} → statement M
 byte-sum-spec =

@@ -1,3 +1,14 @@
+use Rattle.bits.proofs.Lists.{Filled}
+use Rattle.bits.proofs.LoopLaws.{loops}
+use Prim.Native.Nat.{_+_, _-_, _*_}
+use mathlib.Core.Path.{_≡_, refl, sym, ap, _∙_}
+use native.Mathlib.Omega.{arith}
+use borrow.Author.Needs.{needs}
+use Rattle.bits.specs.Bits.{digit}
+use Rattle.hamming.specs.Columns.{columns, columnOf}
+use Rattle.hamming.specs.Code.{taken}
+use Rattle.hamming.specs.Lent.{byteSum, byteEntry, entryAt, sumBy}
+use Rattle.hamming.proofs.Sums.{Summed, summed-none, summed-more, summed-all}
 use Rattle.hamming.proofs.byte_table.Statement.{statement}
 use Rattle.hamming.proofs.byte_table.Tie as tie
 use Rattle.hamming.proofs.byte_table.Reads as reads
@@ -6,50 +17,41 @@ use Rattle.hamming.proofs.byte_sum.Reads as byte-sum-reads
 use Rattle.hamming.proofs.column_table.Reads as column-table-reads
 
 abbrev Inv-loop : tie.InvT-loop
-Inv-loop c t₀ e₀ t e = ?
+Inv-loop c t₀ e₀ t e = Filled e byteEntry t₀ t
 
 abbrev μ-loop : tie.MeasureT-loop
-μ-loop c t₀ e₀ t e = ?
+μ-loop c t₀ e₀ t e = 4096 - e
 
--- src/lib.rt:93:13
 column-table-requires : tie.Need-column-table-requires Inv-loop μ-loop
-column-table-requires c κs = ?
+column-table-requires c κs = search loops
 
--- src/lib.rt:95:5
 loop-holds : tie.Need-loop-holds Inv-loop μ-loop
-loop-holds c = ?
+loop-holds c = search loops
 
--- src/lib.rt:96:38
 cast-byte-sum : tie.Need-cast-byte-sum Inv-loop μ-loop
-cast-byte-sum c = ?
+cast-byte-sum c = search loops
 
--- src/lib.rt:96:16
 byte-sum-requires : tie.Need-byte-sum-requires Inv-loop μ-loop
-byte-sum-requires c κs = ?
+byte-sum-requires c κs = ((cc), omega arith)
 
--- src/lib.rt:96:9
 mul-t : tie.Need-mul-t Inv-loop μ-loop
-mul-t c = ?
+mul-t c = search loops
 
--- src/lib.rt:96:9
 array-write-t : tie.Need-array-write-t Inv-loop μ-loop
-array-write-t c = ?
+array-write-t c = search loops
 
--- src/lib.rt:95:9
 add-e : tie.Need-add-e Inv-loop μ-loop
-add-e c = ?
+add-e c = search loops
 
--- src/lib.rt:95:5
 loop-less : tie.Need-loop-less Inv-loop μ-loop
-loop-less c = ?
+loop-less c = search loops
 
--- src/lib.rt:95:5
 loop-again : tie.Need-loop-again Inv-loop μ-loop
-loop-again c = ?
+unfolding byteEntry
+loop-again c = search loops
 
--- src/lib.rt:90:1
 returns : tie.Need-returns Inv-loop μ-loop
-returns c = ?
+returns c = search loops
 
 pub byte-table-spec : {M : Type 1} → statement M
 byte-table-spec =

@@ -1,16 +1,24 @@
+use native.Mathlib.Omega.{arith}
+use mir.Syntax.{w8}
+use mir.Val.{Fits}
 use borrow.Author.Needs.{needs}
+use lib.ListN.{getD}
+use Rattle.bits.specs.Bits.{Bytes}
+use Rattle.hamming.proofs.Tabled.{join-set}
 use Rattle.hamming.proofs.join.Statement.{statement}
 use Rattle.hamming.proofs.join.Tie as tie
 use Rattle.hamming.proofs.join.Reads as reads
 use Rattle.hamming.proofs.join.Lts as lts
 
--- src/lib.rt:144:13
+bytes : (c : tie.Start) → Bytes (c .args .e)
+bytes c k = let f : Fits w8 (getD (c .args .e) k 0) = search needs in f .fits
+
 array-read-w : tie.Need-array-read-w
 array-read-w c = search needs
 
 -- src/lib.rt:144:13
 mul-w : tie.Need-mul-w
-mul-w c = ?
+mul-w c = omega (arith, bytes c 14)
 
 -- src/lib.rt:144:29
 cast-w : tie.Need-cast-w
@@ -18,7 +26,7 @@ cast-w c = search needs
 
 -- src/lib.rt:144:13
 add-w : tie.Need-add-w
-add-w c = ?
+add-w c = omega (arith, bytes c 14)
 
 -- src/lib.rt:144:5
 array-write-w : tie.Need-array-write-w
@@ -34,7 +42,7 @@ array-write-w-2 c = search needs
 
 -- src/lib.rt:139:1
 returns : tie.Need-returns
-returns c = ?
+returns c = join-set (c .args .e) (c .args .p) (search needs) (bytes c) (c .pre)
 
 pub join-spec : {M : Type 1} → statement M
 join-spec =
