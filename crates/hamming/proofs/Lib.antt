@@ -5,3 +5,4 @@ pub mod Turning
 pub mod Words
 pub mod Repairs
 pub mod Tabled
+pub mod Unique

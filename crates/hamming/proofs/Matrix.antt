@@ -1,18 +1,19 @@
 -- What is proved of the matrix: 128 columns of nine digits, all non-zero (the row of ones), all different; the last nine are independent, so
 -- that exactly one choice of the nine check bits makes the checks zero. Each is one test over the whole table.
 -- Assumes nothing.
-use Prim.Native.Nat.{ℕ, _+_, _-_, _*_, _/_, _%_, _^_, _<_}
-use mathlib.Core.Bool.{Bool, true, false, cond, not}
+use Prim.Native.Nat.{ℕ, _-_, _*_, _/_, _%_, _^_, _<_}
+use mathlib.Core.Bool.{Bool}
 use mathlib.Core.Path.{_≡_, refl, sym, ap, _∙_}
 use native.Mathlib.Nat.{mul-one}
 use native.Mathlib.Omega.{arith}
-use lib.Bits.{bitXor, xor-self, xor-zero-l, xor-lt}
-use lib.Dec.{T, eqb, ltb, eqb→eq, ltb→lt, eqb-refl}
+use lib.Bits.{bitXor, xor-self, xor-lt}
+use lib.Dec.{T, eqb, ltb, eqb→eq, ltb→lt}
 use lib.ListN.{length}
 use Rattle.bits.specs.Bits.{tabulate, digit}
 use Rattle.bits.proofs.Numbers.{digit-lt}
-use Rattle.bits.proofs.Tables.{both, both-left, both-right, below, each}
-use Rattle.bits.proofs.Xor.{xor-cancel, xor-assoc, digit-xor}
+use Rattle.bits.proofs.Common.{agree, xor-none}
+use Rattle.bits.proofs.Tables.{both, both-left, both-right, each}
+use Rattle.bits.proofs.Xor.{digit-xor}
 use Rattle.hamming.specs.Columns.{s, _and_, _or_, neg, s7, g, from, _to_, elementOrder, checkOrder, columns, columnOf, placeIn, positionOf}
 use Rattle.hamming.specs.Code.{sumTo, taken, tailSum, tailSums, tailOf}
 use Rattle.hamming.proofs.Sums.{taken-xor}
@@ -20,14 +21,6 @@ use Rattle.hamming.proofs.Sums.{taken-xor}
 pub columns-long : length columns ≡ 128
 unfolding columns elementOrder checkOrder _to_ from
 columns-long = refl
-
--- an xor is zero only of equals
-pub xor-none : (a b : ℕ) → bitXor a b ≡ 0 → a ≡ b
-xor-none a b e = sym (xor-cancel a b) ∙ ap (λ (x : ℕ). bitXor x b) e ∙ xor-zero-l b
-
--- two functions that one test finds equal below n are equal there
-pub agree : (f g : ℕ → ℕ) (n : ℕ) → T (below (λ i. eqb (f i) (g i)) n) → (i : ℕ) → i < n → f i ≡ g i
-agree f g n t i h = eqb→eq (f i) (g i) (each (λ i. eqb (f i) (g i)) n t i h)
 
 -- the lowest digit of column i is 1, so it is not zero
 pub column-odd : (i : ℕ) → i < 128 → columnOf i % 2 ≡ 1

@@ -10,13 +10,14 @@ use lib.Bits.{bitXor, xor-zero-l, xor-mod}
 use lib.Dec.{eqb, ltb}
 use lib.ListN.{length}
 use Rattle.bits.specs.Bits.{Bytes}
+use Rattle.bits.proofs.Common.{xor-none}
 use Rattle.hamming.specs.declared.Found.{Found}
 use Rattle.hamming.specs.declared.Found.the-variants.{Clean, Turned, Beyond}
 use Rattle.hamming.specs.declared.Repaired.{Repaired}
 use Rattle.hamming.specs.Columns.{columnOf, positionOf}
 use Rattle.hamming.specs.Code.{checksOf, turn}
 use Rattle.hamming.specs.Repair.{answer, repairAt, repairOf}
-use Rattle.hamming.proofs.Matrix.{xor-none, column-lt, column-odd, column-not-zero, columns-differ, position-column, no-column-even}
+use Rattle.hamming.proofs.Matrix.{column-odd, column-not-zero, columns-differ, position-column, no-column-even}
 use Rattle.hamming.proofs.Turning.{turn-long, turn-bytes, turn-turn, checks-turn}
 use Rattle.hamming.proofs.Words.{checks-lt}
 

@@ -10,13 +10,13 @@ use lib.Dec.{eqb, lit<}
 use lib.ListN.{length, length-set, getD, set}
 use lib.Seq.{getD-set-same, getD-set-other, set-set, set-getD}
 use Rattle.bits.specs.Bits.{digit, bitOf, bitAt, Bytes}
+use Rattle.bits.proofs.Common.{agree}
 use Rattle.bits.proofs.Packing.{bitOf-lt}
 use Rattle.bits.proofs.Tables.{below, each}
 use Rattle.bits.proofs.Xor.{xor-cancel, digit-xor}
 use Rattle.hamming.specs.Columns.{columnOf}
 use Rattle.hamming.specs.Code.{sumTo, taken, checksOf, turn}
 use Rattle.hamming.proofs.Sums.{unit, unit-same, unit-other, unit-lt, taken-xor, sum-unit}
-use Rattle.hamming.proofs.Matrix.{agree}
 
 -- the digits of the byte 128 / 2 ^ a: the only 1 stands at a. The test goes over the 64 pairs
 mark-digit : (a b : ℕ) → a < 8 → b < 8 → digit 8 (128 / 2 ^ a) b ≡ unit a b

@@ -4,7 +4,6 @@ use mathlib.Core.Bool.{cond}
 use mathlib.Core.Path.{_≡_, refl, sym, ap, ap₂, _∙_}
 use mathlib.Core.List.{List}
 use native.Mathlib.Nat.{zero-add, zero-div}
-use native.Mathlib.Decide.{decLt}
 use native.Mathlib.Omega.{arith}
 use borrow.Author.Tests.{lt-ltb, le-ltb}
 use lib.Bits.{bitXor, xor-self, xor-zero-r}
@@ -12,13 +11,14 @@ use lib.Dec.{ltb, lit<}
 use lib.ListN.{length, length-set, getD, set, replicate, getD-replicate}
 use lib.Seq.{getD-set-same, getD-set-other}
 use Rattle.bits.specs.Bits.{tabulate, num, digit, bitOf, bitAt, pack, packs, Bits, Bytes}
+use Rattle.bits.proofs.Common.{by-bound, xor-none}
 use Rattle.bits.proofs.Lists.{is-table, length-tabulate, getD-tabulate, getD-past}
 use Rattle.bits.proofs.Numbers.{num-lt, num-ext, num-front, num-back, num-digit, num-is, digit-num, digit-lt}
 use Rattle.bits.proofs.Packing.{bitOf-lt, bitOf-packs, num-bitOf, length-packs, packs-bitOf, packs-ext}
 use Rattle.hamming.specs.Columns.{columnOf}
 use Rattle.hamming.specs.Code.{sumTo, taken, checksOf, elementSum, tailSum, tailOf, joined, joinedWord, coded}
 use Rattle.hamming.proofs.Sums.{sum-same, sum-zero, sum-lt, sum-split, taken-same, taken-none, taken-lt}
-use Rattle.hamming.proofs.Matrix.{xor-none, column-lt, tail-lt, tail-sum, tail-back}
+use Rattle.hamming.proofs.Matrix.{column-lt, tail-lt, tail-sum, tail-back}
 
 -- ---- 119 bits and nine
 
@@ -29,14 +29,6 @@ joined-low f p i h = rw (lt-ltb i 119 h)
 pub joined-high : (f : ℕ → ℕ) (p j : ℕ) → joined f p (119 + j) ≡ digit 9 p j
 unfolding joined
 joined-high f p j = let e : 119 + j - 119 ≡ j = omega arith in rw (le-ltb (119 + j) 119 (omega arith), e)
-
--- a number is below n, or not
-part-at : {A : Type 0} (n i : ℕ) → (i < n → A) → (n ≤ i → A) → Dec (i < n) → A
-part-at n i low high (yes h) = low h
-part-at n i low high (no g) = high (omega arith)
-
-pub by-bound : {A : Type 0} (n i : ℕ) → (i < n → A) → (n ≤ i → A) → A
-by-bound n i low high = part-at n i low high (decLt i n)
 
 -- what holds of the first 119 and of those from 119 on holds of all
 by-part : (P : ℕ → Type 0) → ((i : ℕ) → i < 119 → P i) → ((j : ℕ) → P (119 + j)) → (i : ℕ) → P i
