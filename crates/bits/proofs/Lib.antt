@@ -7,3 +7,4 @@ pub mod Tables
 pub mod LoopLaws
 pub mod Counting
 pub mod OneAnswer
+pub mod Common

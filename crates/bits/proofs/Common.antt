@@ -1,0 +1,30 @@
+-- Small laws that several crates cite: one answer only, a number below a bound or not, two functions that one test finds equal, and an xor that
+-- is zero. Assumes nothing.
+use Prim.Native.Nat.{ℕ, _<_, _≤_}
+use mathlib.Core.Path.{_≡_, sym, ap, _∙_}
+use native.Mathlib.Decide.{decLt}
+use native.Mathlib.Omega.{arith}
+use lib.Bits.{bitXor, xor-zero-l}
+use lib.Dec.{T, eqb, eqb→eq}
+use Rattle.bits.proofs.Tables.{below, each}
+use Rattle.bits.proofs.Xor.{xor-cancel}
+
+-- a contract that is an equation with a definition has one answer
+pub only : {A : Type 0} {x y e : A} → x ≡ e → y ≡ e → x ≡ y
+only p q = p ∙ sym q
+
+-- a number is below n, or not
+bound-at : {A : Type 0} (n i : ℕ) → (i < n → A) → (n ≤ i → A) → Dec (i < n) → A
+bound-at n i low high (yes h) = low h
+bound-at n i low high (no g) = high (omega arith)
+
+pub by-bound : {A : Type 0} (n i : ℕ) → (i < n → A) → (n ≤ i → A) → A
+by-bound n i low high = bound-at n i low high (decLt i n)
+
+-- two functions that one computed test finds equal below n are equal there
+pub agree : (f g : ℕ → ℕ) (n : ℕ) → T (below (λ i. eqb (f i) (g i)) n) → (i : ℕ) → i < n → f i ≡ g i
+agree f g n t i h = eqb→eq (f i) (g i) (each (λ i. eqb (f i) (g i)) n t i h)
+
+-- an xor is zero only of equals
+pub xor-none : (a b : ℕ) → bitXor a b ≡ 0 → a ≡ b
+xor-none a b e = sym (xor-cancel a b) ∙ ap (λ (x : ℕ). bitXor x b) e ∙ xor-zero-l b

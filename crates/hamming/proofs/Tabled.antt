@@ -1,0 +1,118 @@
+-- The sums by bytes are the checks, and what lent tables give is the code's where they are the tables of `specs/Lent`. Assumes nothing.
+use Prim.Native.Nat.{ℕ, _+_, _*_, _/_, _%_, _^_, _<_}
+use mathlib.Core.Path.{_≡_, refl, sym, ap, ap₂, _∙_}
+use mathlib.Core.List.{List}
+use native.Mathlib.Nat.{mod-eq-of-lt}
+use native.Mathlib.Decide.{ℕ-discrete}
+use native.Mathlib.Omega.{arith}
+use lib.Bits.{bitXor, xor-zero-r}
+use lib.ListN.{length, length-set, getD, set}
+use lib.Seq.{getD-set-same, getD-set-other}
+use Rattle.bits.specs.Bits.{tabulate, num, digit, bitAt, Bits, Bytes}
+use Rattle.bits.proofs.Lists.{is-table, getD-tabulate}
+use Rattle.bits.proofs.Numbers.{num-ext, num-front, num-back, num-digit, num-more, digit-lt}
+use Rattle.bits.proofs.Packing.{bitOf-lt, bitOf-at, num-bitOf}
+use Rattle.hamming.specs.Columns.{s, _and_, _or_, neg, s7, g, from, _to_, elementOrder, checkOrder, columns, columnOf, positionOf}
+use Rattle.hamming.specs.Code.{sumTo, taken, checksOf, elementSum, tailSum, tailOf, joined, joinedWord, coded, wordOf}
+use Rattle.hamming.specs.Repair.{repairAt, repairOf}
+use Rattle.hamming.specs.Lent.{byteSum, byteEntry, byteTable, tailTable, positionTable, entryAt, sumBy, wordBy, repairBy}
+use Rattle.hamming.proofs.Sums.{sum-same, sum-blocks, taken-same}
+use Rattle.hamming.proofs.Matrix.{tail-lt}
+use Rattle.hamming.proofs.Words.{checks-joined, checks-lt, element-lt, joined-lt, joined-low, joined-high, pack-bytes}
+
+-- what the bytes of a word add
+unfoldable pub byteOfSum : List ℕ → ℕ → ℕ
+byteOfSum w k = byteSum k (getD w k 0)
+
+pub checks-bytes : (w : List ℕ) → sumTo (byteOfSum w) 16 ≡ checksOf w
+unfolding checksOf byteOfSum byteSum
+checks-bytes w =
+    sym (sum-blocks (taken 0 (bitAt w)) 8 16
+    ∙ sum-same (λ k. sumTo (λ j. taken 0 (bitAt w) (8 * k + j)) 8) (byteOfSum w) 16
+    (λ k h. sum-same (λ j. taken 0 (bitAt w) (8 * k + j)) (taken (8 * k) (digit 8 (getD w k 0))) 8
+    (λ j l. taken-same 0 (8 * k) (bitAt w) (digit 8 (getD w k 0)) (8 * k + j) j (bitOf-at 8 w k j l) (omega arith))))
+
+-- ---- by tables
+
+-- an entry of a table, by equations
+pub entry-is : (f : ℕ → ℕ) (n : ℕ) (t : List ℕ) (i c : ℕ) → t ≡ tabulate n f → i ≡ c → c < n → getD t i 0 ≡ f c
+entry-is f n t i c e p h = ap₂ (λ (l : List ℕ) (k : ℕ). getD l k 0) e p ∙ getD-tabulate 0 n f c h
+
+byte-entry : (k x : ℕ) → k < 16 → x < 256 → getD byteTable (256 * k + x) 0 ≡ byteSum k x
+unfolding byteEntry
+byte-entry k x h l =
+    getD-tabulate 0 4096 byteEntry (256 * k + x) (omega arith) ∙ ap₂ byteSum (omega arith) (omega arith)
+
+pub by-checks : (t w : List ℕ) → t ≡ byteTable → Bytes w → sumBy t w ≡ checksOf w
+unfolding sumBy entryAt byteOfSum
+by-checks t w e b =
+    sum-same (entryAt t w) (byteOfSum w) 16 each-byte ∙ checks-bytes w
+  where
+    each-byte : (k : ℕ) → k < 16 → entryAt t w k ≡ byteOfSum w k
+    each-byte k h = ap (λ (l : List ℕ). getD l (256 * k + getD w k 0) 0) e ∙ byte-entry k (getD w k 0) h (b k)
+
+-- the 119 bits alone, with nine zeros
+pub checks-alone : (f : ℕ → ℕ) → Bits f → checksOf (joinedWord f 0) ≡ elementSum f
+unfolding tailSum sumTo taken digit columnOf columns elementOrder checkOrder _to_ from g s7 s _and_ _or_ neg
+checks-alone f b = checks-joined f 0 b ∙ xor-zero-r (elementSum f)
+
+-- so the code word is closed by what these add
+pub word-closed : (f : ℕ → ℕ) → Bits f → joinedWord f (tailOf (checksOf (joinedWord f 0))) ≡ coded f
+unfolding coded
+word-closed f b = ap (λ (c : ℕ). joinedWord f (tailOf c)) (checks-alone f b)
+
+pub by-word : (t tails e : List ℕ) → t ≡ byteTable → tails ≡ tailTable → wordBy t tails e ≡ wordOf e
+unfolding wordBy coded
+by-word t tails e p q =
+    let f = bitAt e in
+    let b = bitOf-lt 8 e in
+    let c : sumBy t (joinedWord f 0) ≡ elementSum f = by-checks t (joinedWord f 0) p (pack-bytes (joined f 0) (joined-lt f 0 b)) ∙ checks-alone f b in
+    let h = element-lt f b in
+    ap (joinedWord f)
+    (ap₂ (λ (l : List ℕ) (x : ℕ). getD l x 0 % 512) q c
+    ∙ ap (λ (x : ℕ). x % 512) (getD-tabulate 0 512 tailOf (elementSum f) h)
+    ∙ mod-eq-of-lt (tail-lt (elementSum f) h))
+
+pub by-repair : (t positions w : List ℕ) → t ≡ byteTable → positions ≡ positionTable → Bytes w → repairBy t positions w ≡ repairOf w
+unfolding repairBy repairOf
+by-repair t positions w p q b =
+    ap₂ (λ (l : List ℕ) (c : ℕ). repairAt w c (getD l c 0)) q (by-checks t w p b)
+    ∙ ap (repairAt w (checksOf w)) (getD-tabulate 0 512 positionOf (checksOf w) (checks-lt w))
+
+-- ---- the two bytes that hold the check bits
+
+module _ (e : List ℕ) (p : ℕ) (long : length e ≡ 16) (bytes : Bytes e) (small : p < 512) where
+  front-byte : (k : ℕ) → k < 14 → getD e k 0 ≡ num 8 (joined (bitAt e) p) (8 * k)
+  front-byte k h =
+      sym (num-bitOf 8 e k (bytes k))
+      ∙ num-ext 8 (bitAt e) (joined (bitAt e) p) (8 * k) (8 * k) (λ j l. sym (joined-low (bitAt e) p (8 * k + j) (omega arith)))
+
+  shared-byte : getD e 14 0 / 2 * 2 + p / 256 ≡ num 8 (joined (bitAt e) p) 112
+  unfolding digit
+  shared-byte =
+      let f = joined (bitAt e) p in
+      let top : getD e 14 0 / 2 ≡ num 7 f 112 = ap (λ (x : ℕ). x / 2) (sym (num-bitOf 8 e 14 (bytes 14))) ∙ num-front 7 1 (bitAt e) 112 (bitOf-lt 8 e) ∙ num-ext 7 (bitAt e) f 112 112 (λ j l. sym (joined-low (bitAt e) p (112 + j) (omega arith))) in
+      let one : p / 256 ≡ p / 256 % 2 = omega arith in
+      ap₂ (λ (x y : ℕ). x * 2 + y) top (one ∙ sym (joined-high (bitAt e) p 0)) ∙ sym (num-more 7 f 112)
+
+  last-byte : p % 256 ≡ num 8 (joined (bitAt e) p) 120
+  last-byte =
+      ap (λ (x : ℕ). x % 256) (sym (num-digit 9 p small)) ∙ num-back 1 8 (digit 9 p) 0 (digit-lt 9 p)
+      ∙ num-ext 8 (digit 9 p) (joined (bitAt e) p) 1 120 (λ j l. sym (joined-high (bitAt e) p (1 + j)) ∙ ap (joined (bitAt e) p) (omega arith))
+
+  byte-is : (k : ℕ) → k < 16 → Dec (k ≡ 15) → Dec (k ≡ 14)
+      → getD (set (set e 14 (getD e 14 0 / 2 * 2 + p / 256)) 15 (p % 256)) k 0 ≡ num 8 (joined (bitAt e) p) (8 * k)
+  byte-is k h (yes a) d = rw a (getD-set-same (set e 14 (getD e 14 0 / 2 * 2 + p / 256)) 15 (p % 256) 0 (simp length-set (omega arith)) ∙ last-byte)
+  byte-is k h (no a) (yes b) =
+      getD-set-other (set e 14 (getD e 14 0 / 2 * 2 + p / 256)) 15 k (p % 256) 0 a
+      ∙ rw b (getD-set-same e 14 (getD e 14 0 / 2 * 2 + p / 256) 0 (omega arith) ∙ shared-byte)
+  byte-is k h (no a) (no b) =
+      getD-set-other (set e 14 (getD e 14 0 / 2 * 2 + p / 256)) 15 k (p % 256) 0 a
+      ∙ getD-set-other e 14 k (getD e 14 0 / 2 * 2 + p / 256) 0 b
+      ∙ front-byte k (omega arith)
+
+  -- so setting them joins the nine bits to the 119
+  pub join-set : set (set e 14 (getD e 14 0 / 2 * 2 + p / 256)) 15 (p % 256) ≡ joinedWord (bitAt e) p
+  join-set =
+      is-table 0 16 (λ k. num 8 (joined (bitAt e) p) (8 * k)) (set (set e 14 (getD e 14 0 / 2 * 2 + p / 256)) 15 (p % 256)) (simp length-set long)
+      (λ k h. byte-is k h (ℕ-discrete k 15) (ℕ-discrete k 14))

@@ -1,0 +1,83 @@
+-- A turned bit: which bits a turn changes, and what it does to the checks. Assumes nothing.
+use Prim.Native.Nat.{ℕ, _+_, _*_, _/_, _%_, _^_, _<_}
+use mathlib.Core.Path.{_≡_, refl, sym, ap, ap₂, subst, _∙_}
+use mathlib.Core.List.{List}
+use native.Mathlib.Nat.{zero-add, div-le-self, lt-of-le-of-lt}
+use native.Mathlib.Decide.{ℕ-discrete}
+use native.Mathlib.Omega.{arith}
+use lib.Bits.{bitXor, xor-lt}
+use lib.Dec.{eqb, lit<}
+use lib.ListN.{length, length-set, getD, set}
+use lib.Seq.{getD-set-same, getD-set-other, set-set, set-getD}
+use Rattle.bits.specs.Bits.{digit, bitOf, bitAt, Bytes}
+use Rattle.bits.proofs.Common.{agree}
+use Rattle.bits.proofs.Packing.{bitOf-lt}
+use Rattle.bits.proofs.Tables.{below, each}
+use Rattle.bits.proofs.Xor.{xor-cancel, digit-xor}
+use Rattle.hamming.specs.Columns.{columnOf}
+use Rattle.hamming.specs.Code.{sumTo, taken, checksOf, turn}
+use Rattle.hamming.proofs.Sums.{unit, unit-same, unit-other, unit-lt, taken-xor, sum-unit}
+
+-- the digits of the byte 128 / 2 ^ a: the only 1 stands at a. The test goes over the 64 pairs
+mark-digit : (a b : ℕ) → a < 8 → b < 8 → digit 8 (128 / 2 ^ a) b ≡ unit a b
+unfolding digit unit
+mark-digit a b h k =
+    let e : 8 * a + b < 64 = omega arith in
+    let p : (8 * a + b) / 8 ≡ a = omega arith in
+    let q : (8 * a + b) % 8 ≡ b = omega arith in
+    let t : digit 8 (128 / 2 ^ ((8 * a + b) / 8)) ((8 * a + b) % 8) ≡ unit ((8 * a + b) / 8) ((8 * a + b) % 8) = agree (λ i. digit 8 (128 / 2 ^ (i / 8)) (i % 8)) (λ i. unit (i / 8) (i % 8)) 64 tt (8 * a + b) e in
+    subst (λ (x : ℕ). digit 8 (128 / 2 ^ x) b ≡ unit x b) p (subst (λ (y : ℕ). digit 8 (128 / 2 ^ ((8 * a + b) / 8)) y ≡ unit ((8 * a + b) / 8) y) q t)
+
+pub turn-long : (w : List ℕ) (i : ℕ) → length (turn w i) ≡ length w
+unfolding turn
+turn-long w i = length-set w (i / 8) (bitXor (getD w (i / 8) 0) (128 / 2 ^ (i % 8)))
+
+module _ (w : List ℕ) (long : length w ≡ 16) (i : ℕ) (h : i < 128) where
+  -- the byte that holds bit i, and the others
+  turn-here : getD (turn w i) (i / 8) 0 ≡ bitXor (getD w (i / 8) 0) (128 / 2 ^ (i % 8))
+  unfolding turn
+  turn-here = getD-set-same w (i / 8) (bitXor (getD w (i / 8) 0) (128 / 2 ^ (i % 8))) 0 (omega arith)
+
+  turn-there : (k : ℕ) → (k ≡ i / 8 → ⊥) → getD (turn w i) k 0 ≡ getD w k 0
+  unfolding turn
+  turn-there k ne = getD-set-other w (i / 8) k (bitXor (getD w (i / 8) 0) (128 / 2 ^ (i % 8))) 0 ne
+
+  -- turned twice, it is as it was
+  pub turn-turn : turn (turn w i) i ≡ w
+  unfolding turn
+  turn-turn =
+      let m = 128 / 2 ^ (i % 8) in
+      let x = getD w (i / 8) 0 in
+      set-set w (i / 8) (bitXor x m) (bitXor (getD (turn w i) (i / 8) 0) m)
+      ∙ ap (set w (i / 8)) (ap (λ (y : ℕ). bitXor y m) turn-here ∙ xor-cancel x m)
+      ∙ set-getD w (i / 8) 0
+
+  byte-at : Bytes w → (k : ℕ) → Dec (k ≡ i / 8) → getD (turn w i) k 0 < 256
+  byte-at b k (yes e) =
+      rw (e, turn-here) (xor-lt 8 (getD w (i / 8) 0) (128 / 2 ^ (i % 8)) (b (i / 8)) (lt-of-le-of-lt (div-le-self 128 (2 ^ (i % 8))) (lit< tt)))
+  byte-at b k (no ne) = rw (turn-there k ne) (b k)
+
+  pub turn-bytes : Bytes w → Bytes (turn w i)
+  turn-bytes b k = byte-at b k (ℕ-discrete k (i / 8))
+
+  -- bit i is turned, and no other
+  same-byte : (j : ℕ) → j / 8 ≡ i / 8 → Dec (i ≡ j) → unit (i % 8) (j % 8) ≡ unit i j
+  same-byte j e (yes p) = unit-same (i % 8) (j % 8) (omega arith) ∙ sym (unit-same i j p)
+  same-byte j e (no ne) = unit-other (i % 8) (j % 8) (λ q. ne (omega arith)) ∙ sym (unit-other i j ne)
+
+  bit-at : (j : ℕ) → Dec (j / 8 ≡ i / 8) → bitAt (turn w i) j ≡ (bitAt w j + unit i j) % 2
+  unfolding bitOf
+  bit-at j (yes e) =
+      rw (e, turn-here, digit-xor 8 (getD w (i / 8) 0) (128 / 2 ^ (i % 8)) (j % 8), mark-digit (i % 8) (j % 8) (omega arith) (omega arith), same-byte j e (ℕ-discrete i j))
+  bit-at j (no ne) =
+      rw (turn-there (j / 8) ne, unit-other i j (λ q. ne (ap (λ (x : ℕ). x / 8) (sym q)))) (omega (arith, bitOf-lt 8 w j))
+
+  pub turn-bit : (j : ℕ) → bitAt (turn w i) j ≡ (bitAt w j + unit i j) % 2
+  turn-bit j = bit-at j (ℕ-discrete (j / 8) (i / 8))
+
+  -- the checks of a word with bit i turned are its checks plus column i
+  pub checks-turn : checksOf (turn w i) ≡ bitXor (checksOf w) (columnOf i)
+  unfolding checksOf
+  checks-turn =
+      taken-xor 0 (bitAt w) (unit i) (bitAt (turn w i)) 128 (bitOf-lt 8 w) (unit-lt i) (λ j l. turn-bit j)
+      ∙ ap (bitXor (checksOf w)) (sum-unit 0 i 128 h ∙ ap columnOf (zero-add i))

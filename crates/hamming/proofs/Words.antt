@@ -1,0 +1,160 @@
+-- The code word of 119 bits: it is sixteen bytes that begin with them, its checks are zero, and it is the only such word. Assumes nothing.
+use Prim.Native.Nat.{ℕ, zero, suc, _+_, _-_, _*_, _/_, _%_, _^_, _<_, _≤_}
+use mathlib.Core.Bool.{cond}
+use mathlib.Core.Path.{_≡_, refl, sym, ap, ap₂, _∙_}
+use mathlib.Core.List.{List}
+use native.Mathlib.Nat.{zero-add, zero-div}
+use native.Mathlib.Omega.{arith}
+use borrow.Author.Tests.{lt-ltb, le-ltb}
+use lib.Bits.{bitXor, xor-self, xor-zero-r}
+use lib.Dec.{ltb, lit<}
+use lib.ListN.{length, length-set, getD, set, replicate, getD-replicate}
+use lib.Seq.{getD-set-same, getD-set-other}
+use Rattle.bits.specs.Bits.{tabulate, num, digit, bitOf, bitAt, pack, packs, Bits, Bytes}
+use Rattle.bits.proofs.Common.{by-bound, xor-none}
+use Rattle.bits.proofs.Lists.{is-table, length-tabulate, getD-tabulate, getD-past}
+use Rattle.bits.proofs.Numbers.{num-lt, num-ext, num-front, num-back, num-digit, num-is, digit-num, digit-lt}
+use Rattle.bits.proofs.Packing.{bitOf-lt, bitOf-packs, num-bitOf, length-packs, packs-bitOf, packs-ext}
+use Rattle.hamming.specs.Columns.{columnOf}
+use Rattle.hamming.specs.Code.{sumTo, taken, checksOf, elementSum, tailSum, tailOf, joined, joinedWord, coded}
+use Rattle.hamming.proofs.Sums.{sum-same, sum-zero, sum-lt, sum-split, taken-same, taken-none, taken-lt}
+use Rattle.hamming.proofs.Matrix.{column-lt, tail-lt, tail-sum, tail-back}
+
+-- ---- 119 bits and nine
+
+pub joined-low : (f : ℕ → ℕ) (p i : ℕ) → i < 119 → joined f p i ≡ f i
+unfolding joined
+joined-low f p i h = rw (lt-ltb i 119 h)
+
+pub joined-high : (f : ℕ → ℕ) (p j : ℕ) → joined f p (119 + j) ≡ digit 9 p j
+unfolding joined
+joined-high f p j = let e : 119 + j - 119 ≡ j = omega arith in rw (le-ltb (119 + j) 119 (omega arith), e)
+
+-- what holds of the first 119 and of those from 119 on holds of all
+by-part : (P : ℕ → Type 0) → ((i : ℕ) → i < 119 → P i) → ((j : ℕ) → P (119 + j)) → (i : ℕ) → P i
+by-part P low high i = by-bound 119 i (low i) (λ h. let e : 119 + (i - 119) ≡ i = omega arith in rw e at (high (i - 119)))
+
+pub joined-lt : (f : ℕ → ℕ) (p : ℕ) → Bits f → Bits (joined f p)
+joined-lt f p b =
+    by-part (λ i. joined f p i < 2) (λ i h. rw (joined-low f p i h) (b i)) (λ j. rw (joined-high f p j) (digit-lt 9 p j))
+
+pub joined-bit : (f : ℕ → ℕ) (p i : ℕ) → Bits f → i < 128 → bitAt (joinedWord f p) i ≡ joined f p i
+joined-bit f p i b h = bitOf-packs 8 16 (joined f p) i (joined-lt f p b) h
+
+byte-lt : (k : ℕ) (f : ℕ → ℕ) → Bits f → k < 16 → getD (pack 16 f) k 0 < 256
+byte-lt k f b h = rw (getD-tabulate 0 16 (λ k. num 8 f (8 * k)) k h) (num-lt 8 f (8 * k) b)
+
+pub pack-bytes : (f : ℕ → ℕ) → Bits f → Bytes (pack 16 f)
+pack-bytes f b k = by-bound 16 k (byte-lt k f b) (λ h. rw (getD-past 0 16 (λ k. num 8 f (8 * k)) k h) (lit< tt))
+
+-- the checks of the joined word: what the 119 add, and what the nine add
+pub checks-joined : (f : ℕ → ℕ) (p : ℕ) → Bits f → checksOf (joinedWord f p) ≡ bitXor (elementSum f) (tailSum p)
+unfolding checksOf elementSum tailSum
+checks-joined f p b =
+    let v = bitAt (joinedWord f p) in
+    sum-split (taken 0 v) 119 9
+    ∙ ap₂ bitXor
+    (sum-same (taken 0 v) (taken 0 f) 119 (λ i h. taken-same 0 0 v f i i (joined-bit f p i b (omega arith) ∙ joined-low f p i h) refl))
+    (sum-same (λ j. taken 0 v (119 + j)) (taken 119 (digit 9 p)) 9
+    (λ j h. taken-same 0 119 v (digit 9 p) (119 + j) j (joined-bit f p (119 + j) b (omega arith) ∙ joined-high f p j) (omega arith)))
+
+pub element-lt : (f : ℕ → ℕ) → Bits f → elementSum f < 512
+unfolding elementSum
+element-lt f b =
+    sum-lt 9 (taken 0 f) 119 (lit< tt) (λ i h. taken-lt 0 f i 512 b (rw (zero-add i) (column-lt i (omega arith))))
+
+pub tail-sum-lt : (p : ℕ) → tailSum p < 512
+unfolding tailSum
+tail-sum-lt p =
+    sum-lt 9 (taken 119 (digit 9 p)) 9 (lit< tt) (λ j h. taken-lt 119 (digit 9 p) j 512 (digit-lt 9 p) (column-lt (119 + j) (omega arith)))
+
+pub checks-lt : (w : List ℕ) → checksOf w < 512
+unfolding checksOf
+checks-lt w = sum-lt 9 (taken 0 (bitAt w)) 128 (lit< tt) (λ i h. taken-lt 0 (bitAt w) i 512 (bitOf-lt 8 w) (rw (zero-add i) (column-lt i h)))
+
+-- ---- the code word
+
+pub coded-long : (f : ℕ → ℕ) → length (coded f) ≡ 16
+unfolding coded
+coded-long f = length-packs 8 16 (joined f (tailOf (elementSum f)))
+
+pub coded-bytes : (f : ℕ → ℕ) → Bits f → Bytes (coded f)
+unfolding coded
+coded-bytes f b = pack-bytes (joined f (tailOf (elementSum f))) (joined-lt f (tailOf (elementSum f)) b)
+
+pub coded-bit : (f : ℕ → ℕ) (i : ℕ) → Bits f → i < 119 → bitAt (coded f) i ≡ f i
+unfolding coded
+coded-bit f i b h =
+    let p = tailOf (elementSum f) in joined-bit f p i b (omega arith) ∙ joined-low f p i h
+
+pub coded-checks : (f : ℕ → ℕ) → Bits f → checksOf (coded f) ≡ 0
+unfolding coded
+coded-checks f b =
+    checks-joined f (tailOf (elementSum f)) b
+    ∙ ap (bitXor (elementSum f)) (tail-sum (elementSum f) (element-lt f b))
+    ∙ xor-self (elementSum f)
+
+-- only the first 119 bits count
+pub element-ext : (f g : ℕ → ℕ) → ((i : ℕ) → i < 119 → f i ≡ g i) → elementSum f ≡ elementSum g
+unfolding elementSum
+element-ext f g e = sum-same (taken 0 f) (taken 0 g) 119 (λ i h. taken-same 0 0 f g i i (e i h) refl)
+
+joined-ext : (f g : ℕ → ℕ) (p : ℕ) → ((i : ℕ) → i < 119 → f i ≡ g i) → (i : ℕ) → joined f p i ≡ joined g p i
+joined-ext f g p e =
+    by-part (λ i. joined f p i ≡ joined g p i) (λ i h. joined-low f p i h ∙ e i h ∙ sym (joined-low g p i h))
+    (λ j. joined-high f p j ∙ sym (joined-high g p j))
+
+pub coded-ext : (f g : ℕ → ℕ) → ((i : ℕ) → i < 119 → f i ≡ g i) → coded f ≡ coded g
+unfolding coded
+coded-ext f g e =
+    ap (λ (c : ℕ). joinedWord f (tailOf c)) (element-ext f g e)
+    ∙ packs-ext 8 16 (joined f (tailOf (elementSum g))) (joined g (tailOf (elementSum g))) (λ i h. joined-ext f g (tailOf (elementSum g)) e i)
+
+-- ---- it is the only one
+
+-- a word is its own 119 bits and its own nine
+module _ (w : List ℕ) (long : length w ≡ 16) (bytes : Bytes w) where
+  tail-bits : ℕ
+  tail-bits = num 9 (bitAt w) 119
+
+  joined-own : (i : ℕ) → i < 128 → bitAt w i ≡ joined (bitAt w) tail-bits i
+  unfolding tail-bits
+  joined-own =
+      by-part (λ i. i < 128 → bitAt w i ≡ joined (bitAt w) tail-bits i) (λ i h l. sym (joined-low (bitAt w) tail-bits i h))
+      (λ j l. sym (digit-num 9 (bitAt w) 119 j (bitOf-lt 8 w) (omega arith)) ∙ sym (joined-high (bitAt w) tail-bits j))
+
+  word-joined : w ≡ joinedWord (bitAt w) tail-bits
+  word-joined =
+      sym (packs-bitOf 8 w bytes) ∙ ap (λ (n : ℕ). packs 8 n (bitAt w)) long
+      ∙ packs-ext 8 16 (bitAt w) (joined (bitAt w) tail-bits) joined-own
+
+  tail-small : tail-bits < 512
+  unfolding tail-bits
+  tail-small = num-lt 9 (bitAt w) 119 (bitOf-lt 8 w)
+
+  pub coded-own : checksOf w ≡ 0 → w ≡ coded (bitAt w)
+  unfolding coded
+  coded-own e =
+      let f = bitAt w in
+      let sums : elementSum f ≡ tailSum tail-bits = xor-none (elementSum f) (tailSum tail-bits) (sym (checks-joined f tail-bits (bitOf-lt 8 w)) ∙ ap checksOf (sym word-joined) ∙ e) in
+      word-joined ∙ ap (joinedWord f) (sym (ap tailOf sums ∙ tail-back tail-bits tail-small (tail-sum-lt tail-bits)))
+
+-- a word of sixteen bytes whose checks are zero and whose first 119 bits are f is the code word of f
+pub coded-only : (w : List ℕ) (f : ℕ → ℕ) → length w ≡ 16 → Bytes w → checksOf w ≡ 0 → ((i : ℕ) → i < 119 → bitAt w i ≡ f i) → w ≡ coded f
+coded-only w f long bytes e same = coded-own w long bytes e ∙ coded-ext (bitAt w) f same
+
+-- ---- zeros
+
+zero-bit : (i : ℕ) → i < 128 → bitAt (replicate 16 0) i ≡ 0
+unfolding bitOf digit
+zero-bit i h = rw (getD-replicate {A = ℕ} 16 (i / 8) 0 0 (omega arith), zero-div)
+
+zero-byte : (n k : ℕ) → getD (replicate n 0) k 0 < 256
+zero-byte zero k = lit< tt
+zero-byte (suc n) zero = lit< tt
+zero-byte (suc n) (suc k) = zero-byte n k
+
+pub coded-zero : coded (λ i. 0) ≡ replicate 16 0
+unfolding checksOf
+coded-zero =
+    sym (coded-only (replicate 16 0) (λ i. 0) refl (zero-byte 16) (sum-zero (taken 0 (bitAt (replicate 16 0))) 128 (λ i h. taken-none 0 (bitAt (replicate 16 0)) i (zero-bit i h))) (λ i h. zero-bit i (omega arith)))

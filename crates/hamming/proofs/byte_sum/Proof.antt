@@ -1,0 +1,83 @@
+use Prim.Native.Nat.{ℕ, _+_, _-_, _*_}
+use mathlib.Core.List.{List}
+use lib.ListN.{getD}
+use Rattle.bits.proofs.Numbers.{digit-lt}
+use mathlib.Core.Path.{_≡_, refl, sym, ap, ap₂, _∙_}
+use native.Mathlib.Omega.{arith}
+use borrow.Author.Needs.{needs}
+use Rattle.bits.specs.Bits.{digit}
+use Rattle.hamming.specs.Columns.{columns, columnOf}
+use Rattle.hamming.specs.Code.{taken}
+use Rattle.hamming.specs.Lent.{byteSum, byteEntry, entryAt, sumBy}
+use Rattle.hamming.proofs.Sums.{Summed, summed-none, summed-more, summed-all}
+use Rattle.hamming.proofs.byte_sum.Statement.{statement}
+use Rattle.hamming.proofs.byte_sum.Tie as tie
+use Rattle.hamming.proofs.byte_sum.Reads as reads
+use Rattle.hamming.proofs.byte_sum.Lts as lts
+use Rattle.hamming.proofs.digit_of.Reads as digit-of-reads
+use Rattle.hamming.proofs.times.Reads as times-reads
+
+abbrev Inv-loop : tie.InvT-loop
+Inv-loop t k x sum₀ j₀ sum j = Summed (taken (8 * k) (digit 8 x)) 8 j sum
+
+abbrev μ-loop : tie.MeasureT-loop
+μ-loop t k x sum₀ j₀ sum j = 8 - j
+
+loop-holds : tie.Need-loop-holds Inv-loop μ-loop
+loop-holds c = summed-none
+
+digit-of-requires : tie.Need-digit-of-requires Inv-loop μ-loop
+digit-of-requires c κs = search needs
+
+mul-times : tie.Need-mul-times Inv-loop μ-loop
+mul-times c = search needs
+
+add-times : tie.Need-add-times Inv-loop μ-loop
+add-times c = search needs
+
+mul-times-2 : tie.Need-mul-times-2 Inv-loop μ-loop
+mul-times-2 c = search needs
+
+element-copy-out-times : tie.Need-element-copy-out-times Inv-loop μ-loop
+element-copy-out-times c = search needs
+
+times-requires : tie.Need-times-requires Inv-loop μ-loop
+times-requires c κs =
+    let l = c .before .before .before in rw (c .before .digit-of .ensures) (digit-lt 8 (l .before .args .x) (l .loop .j))
+
+add-j : tie.Need-add-j Inv-loop μ-loop
+add-j c = search needs
+
+loop-less : tie.Need-loop-less Inv-loop μ-loop
+loop-less c = search needs
+
+loop-again : tie.Need-loop-again Inv-loop μ-loop
+unfolding taken columnOf
+loop-again c =
+    let l = c .before .before .before .before in
+    let a = l .before in
+    summed-more (l .loop .inv) (c .before .before .before .loop-test .taken)
+    (c .times .ensures
+    ∙ ap₂ _*_ (c .before .before .digit-of .ensures) (ap (λ (t : List ℕ). getD t (8 * a .args .k + l .loop .j) 0) (a .pre .0)))
+
+returns : tie.Need-returns Inv-loop μ-loop
+unfolding byteSum
+returns c = summed-all (c .before .loop .inv) (c .loop-test .left)
+
+pub byte-sum-spec : {M : Type 1} → statement M
+byte-sum-spec =
+    tie.close
+    (tie.spec
+    Inv-loop
+    μ-loop
+    loop-holds
+    digit-of-requires
+    mul-times
+    add-times
+    mul-times-2
+    element-copy-out-times
+    times-requires
+    add-j
+    loop-less
+    loop-again
+    returns)

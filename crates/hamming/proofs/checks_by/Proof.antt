@@ -1,0 +1,74 @@
+use Prim.Native.Nat.{_+_, _-_, _*_}
+use mathlib.Core.Path.{_≡_, refl, sym, ap, _∙_}
+use native.Mathlib.Omega.{arith}
+use borrow.Author.Needs.{needs}
+use Rattle.bits.specs.Bits.{digit}
+use Rattle.hamming.specs.Columns.{columns, columnOf}
+use Rattle.hamming.specs.Code.{taken}
+use Rattle.hamming.specs.Lent.{byteSum, byteEntry, entryAt, sumBy}
+use Rattle.hamming.proofs.Sums.{Summed, summed-none, summed-more, summed-all}
+use Rattle.hamming.proofs.checks_by.Statement.{statement}
+use Rattle.hamming.proofs.checks_by.Tie as tie
+use Rattle.hamming.proofs.checks_by.Reads as reads
+use Rattle.hamming.proofs.checks_by.Lts as lts
+use Rattle.hamming.proofs.wide.Reads as wide-reads
+
+abbrev Inv-loop : tie.InvT-loop
+Inv-loop t w sum₀ k₀ sum k = Summed (entryAt t w) 16 k sum
+
+abbrev μ-loop : tie.MeasureT-loop
+μ-loop t w sum₀ k₀ sum k = 16 - k
+
+loop-holds : tie.Need-loop-holds Inv-loop μ-loop
+loop-holds c = summed-none
+
+mul-sum : tie.Need-mul-sum Inv-loop μ-loop
+mul-sum c = search needs
+
+array-read-wide : tie.Need-array-read-wide Inv-loop μ-loop
+array-read-wide c = search needs
+
+wide-requires : tie.Need-wide-requires Inv-loop μ-loop
+wide-requires c κs = search needs
+
+add-sum : tie.Need-add-sum Inv-loop μ-loop
+add-sum c = search needs
+
+mul-sum-2 : tie.Need-mul-sum-2 Inv-loop μ-loop
+mul-sum-2 c = search needs
+
+element-copy-out-sum : tie.Need-element-copy-out-sum Inv-loop μ-loop
+element-copy-out-sum c = search needs
+
+add-k : tie.Need-add-k Inv-loop μ-loop
+add-k c = search needs
+
+loop-less : tie.Need-loop-less Inv-loop μ-loop
+loop-less c = search needs
+
+loop-again : tie.Need-loop-again Inv-loop μ-loop
+unfolding entryAt
+loop-again c =
+    summed-more (c .before .before .before .loop .inv) (c .before .before .loop-test .taken) (rw (c .before .wide .ensures .same))
+
+returns : tie.Need-returns Inv-loop μ-loop
+unfolding sumBy
+returns c = summed-all (c .before .loop .inv) (c .loop-test .left)
+
+pub checks-by-spec : {M : Type 1} → statement M
+checks-by-spec =
+    tie.close
+    (tie.spec
+    Inv-loop
+    μ-loop
+    loop-holds
+    mul-sum
+    array-read-wide
+    wide-requires
+    add-sum
+    mul-sum-2
+    element-copy-out-sum
+    add-k
+    loop-less
+    loop-again
+    returns)

@@ -1,0 +1,40 @@
+use Prim.Native.Nat.{ℕ}
+use mathlib.Core.Path.{sym, ap, _∙_}
+use mathlib.Core.List.{List}
+use Rattle.hamming.specs.declared.Found.the-variants.{Turned}
+use Rattle.hamming.specs.Code.{turn}
+use Rattle.hamming.specs.Repair.{answer}
+use Rattle.hamming.proofs.Repairs.{at-turned}
+use Rattle.bits.proofs.LoopLaws.{tests}
+use Rattle.hamming.specs.Repair.{repairAt}
+use borrow.Author.Needs.{needs}
+use Rattle.hamming.proofs.repair_at.Statement.{statement}
+use Rattle.hamming.proofs.repair_at.Tie as tie
+use Rattle.hamming.proofs.repair_at.Reads as reads
+use Rattle.hamming.proofs.repair_at.Lts as lts
+use Rattle.hamming.proofs.turned.Reads as turned-reads
+use Rattle.hamming.proofs.wide.Reads as wide-reads
+
+returns : tie.Need-returns
+unfolding repairAt
+returns c = search tests
+
+wide-requires : tie.Need-wide-requires
+wide-requires c κs = search needs
+
+turned-requires : tie.Need-turned-requires
+turned-requires c κs = search needs
+
+returns-2 : tie.Need-returns-2
+returns-2 c =
+    let i = c .before .before in
+    let a = i .before .before .args in
+    ap (λ (v : List ℕ). answer v (Turned (a .i))) (c .turned .ensures ∙ ap (turn (a .w)) (c .before .wide .ensures .same))
+    ∙ sym (at-turned (a .w) (a .c) (a .i) (i .before .if1 .left) (i .if2 .taken))
+
+returns-3 : tie.Need-returns-3
+unfolding repairAt
+returns-3 c = search tests
+
+pub repair-at-spec : {M : Type 1} → statement M
+repair-at-spec = tie.close (tie.spec returns wide-requires turned-requires returns-2 returns-3)

@@ -1,0 +1,26 @@
+use mathlib.Core.Path.{refl}
+use Rattle.hamming.specs.Code.{turn}
+use borrow.Author.Needs.{needs}
+use Rattle.hamming.proofs.turned.Statement.{statement}
+use Rattle.hamming.proofs.turned.Tie as tie
+use Rattle.hamming.proofs.turned.Reads as reads
+use Rattle.hamming.proofs.turned.Lts as lts
+
+array-read-v : tie.Need-array-read-v
+array-read-v c = search needs
+
+cast-v : tie.Need-cast-v
+cast-v c = search needs
+
+shr-v : tie.Need-shr-v
+shr-v c = search needs
+
+array-write-v : tie.Need-array-write-v
+array-write-v c = search needs
+
+returns : tie.Need-returns
+unfolding turn
+returns c = refl
+
+pub turned-spec : {M : Type 1} → statement M
+turned-spec = tie.close (tie.spec array-read-v cast-v shr-v array-write-v returns)

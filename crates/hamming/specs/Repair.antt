@@ -1,0 +1,27 @@
+-- Repair of a word (document 01, "Code words"): checks all zero, nothing; checks equal to a column, that bit is turned; otherwise the word is
+-- beyond repair and stays as it is. Assumes nothing: these are definitions.
+use Prim.Native.Nat.{ℕ}
+use mathlib.Core.Bool.{cond}
+use mathlib.Core.List.{List}
+use lib.Dec.{ltb, eqb}
+use Rattle.hamming.specs.declared.Found.{Found}
+use Rattle.hamming.specs.declared.Found.the-variants.{Clean, Turned, Beyond}
+use Rattle.hamming.specs.declared.Repaired.{Repaired}
+use Rattle.hamming.specs.Columns.{positionOf}
+use Rattle.hamming.specs.Code.{checksOf, turn}
+
+abbrev pub answer : List ℕ → Found → Repaired
+answer w f = record { word = w; found = f }
+
+-- the word w where its checks are c and c is the column of bit i; an i of 128 or more is none
+unfoldable pub repairAt : List ℕ → ℕ → ℕ → Repaired
+repairAt w c i = cond (eqb c 0) (answer w Clean) (cond (ltb i 128) (answer (turn w i) (Turned i)) (answer w Beyond))
+
+unfoldable pub repairOf : List ℕ → Repaired
+repairOf w = repairAt w (checksOf w) (positionOf (checksOf w))
+
+-- document 01's numbers: 4 is a word beyond repair
+abbrev pub numberOf : Found → ℕ
+numberOf Clean = 0
+numberOf (Turned i) = 0
+numberOf Beyond = 4
