@@ -1,0 +1,2 @@
+-- What `edit` answers, changes and lists.
+pub mod Edit

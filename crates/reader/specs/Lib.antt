@@ -1,0 +1,2 @@
+-- What `read` answers and gives back.
+pub mod Read

@@ -1,0 +1,77 @@
+-- Document 01, "Captures" and "Numbers handed back": reading. One definition for the answer and one for every byte of information and
+-- parity, for any bytes in the capture. Assumes nothing: these are definitions.
+use Prim.Native.Nat.{ℕ, _*_}
+use mathlib.Core.Bool.{Bool, true, false, not, _&&_}
+use mathlib.Core.List.{List, [], _∷_}
+use lib.Dec.{eqb}
+use Rattle.bits.specs.Bits.{num}
+use Rattle.bits.specs.Loops.{count}
+use Rattle.answer.specs.Numbers.{outsideSet, wrongLength, beyondRepair, fillerNotZero, wrongMbas, wrongCrc, padNotZero}
+use Rattle.answer.specs.Rows.{Row, answerOf, whole, buffers}
+use Rattle.answer.specs.Outcomes.{written}
+use Rattle.answer.specs.declared.Answer.{Answer}
+use Rattle.crc.specs.Crc.{crcOf}
+use Rattle.hamming.specs.Code.{checksOf}
+use Rattle.hamming.specs.Repair.{repairOf, numberOf}
+use Rattle.line.specs.Sizes.{infoBits, crcBits, mbasBits, mbasFrom, fecBlocks, padFrom, padBits, infoLength, parityLength, captureLength, words}
+use Rattle.line.specs.Captures.{superAllowed, wrong}
+use Rattle.line.specs.Fec.{mbasAllowed, mbasOf}
+use Rattle.line.specs.Frames.{infoOf, parityOf}
+use Rattle.line.specs.Slots.{holds}
+use Rattle.line.specs.Words.{wordIn, superIn, fecIn}
+
+-- word w of the capture, repaired
+unfoldable pub repaired : List ℕ → ℕ → List ℕ
+repaired cap w = repairOf (wordIn cap w) .word
+
+-- a word of nothing but zeros
+unfoldable pub allZero : List ℕ → Bool
+allZero [] = true
+allZero (x ∷ s) = eqb x 0 && allZero s
+
+-- ---- the rows of the table that only reading has
+
+-- 4, of word w: it is beyond repair
+unfoldable pub isBeyond : List ℕ → ℕ → Bool
+isBeyond cap w = eqb (numberOf (repairOf (wordIn cap w) .found)) beyondRepair
+
+-- 5, of word w: it is filler, and not zero after repair
+unfoldable pub isFilled : ℕ → List ℕ → ℕ → Bool
+isFilled N cap w = not (holds N w) && not (allZero (repaired cap w))
+
+-- 6, of FEC block t: its MBAS is not the expected number
+unfoldable pub mbasDiffers : ℕ → List ℕ → ℕ → Bool
+mbasDiffers m0 cap t = not (eqb (num mbasBits (fecIn (repaired cap) t) mbasFrom) (mbasOf m0 t))
+
+-- 7, of FEC block t: its CRC is not that of its information
+unfoldable pub crcDiffers : List ℕ → ℕ → Bool
+crcDiffers cap t = not (eqb (num crcBits (fecIn (repaired cap) t) infoBits) (crcOf infoBits (fecIn (repaired cap) t)))
+
+-- 8, of super frame f: its pad bits are not all zero
+unfoldable pub padDiffers : List ℕ → ℕ → Bool
+padDiffers cap f = not (eqb (num padBits (superIn (repaired cap) f) padFrom) 0)
+
+-- what is counted: the nine checks of word w are not zero
+unfoldable pub isSeen : List ℕ → ℕ → Bool
+isSeen cap w = not (eqb (checksOf (wordIn cap w)) 0)
+
+-- ---- the answer
+
+unfoldable pub readRows : ℕ → ℕ → List ℕ → List ℕ → List ℕ → List Row
+readRows N m0 cap info par =
+    whole outsideSet (not (superAllowed N && mbasAllowed m0))
+    ∷ buffers wrongLength (wrong (captureLength N) cap ∷ wrong (infoLength N) info ∷ wrong (parityLength N) par ∷ [])
+    ∷ record { number = beyondRepair; places = words N; holds = isBeyond cap }
+    ∷ record { number = fillerNotZero; places = words N; holds = isFilled N cap }
+    ∷ record { number = wrongMbas; places = fecBlocks * N; holds = mbasDiffers m0 cap }
+    ∷ record { number = wrongCrc; places = fecBlocks * N; holds = crcDiffers cap }
+    ∷ record { number = padNotZero; places = N; holds = padDiffers cap }
+    ∷ []
+
+unfoldable pub readAnswer : ℕ → ℕ → List ℕ → List ℕ → List ℕ → Answer
+readAnswer N m0 cap info par = answerOf (readRows N m0 cap info par) (count (isSeen cap) (words N))
+
+-- what the two buffers hold afterwards: information, and parity
+unfoldable pub readLeaves : ℕ → ℕ → List ℕ → List ℕ → List ℕ → List ℕ × List ℕ
+readLeaves N m0 cap info par =
+    written (readAnswer N m0 cap info par) (infoOf N (fecIn (repaired cap)), parityOf N (fecIn (repaired cap))) (info, par)
