@@ -43,6 +43,7 @@ digit-front w v x j l h =
 
 -- ---- bits added to what stands in the register
 
+-- one step of a register that was shifted by n
 shift-on : (r n : ℕ) → n < 32 → shift (r * 2 ^ n % 2 ^ 32) ≡ bitXor (r * 2 ^ suc n % 2 ^ 32) (digit 32 r n * poly)
 unfolding shift
 shift-on r n h =
@@ -52,6 +53,7 @@ shift-on r n h =
     cut : (x : ℕ) → x % 2 ^ 32 * 2 % 2 ^ 32 ≡ x * 2 % 2 ^ 32
     cut x = omega arith
 
+-- FOLD IN: n bits, at most 32, taken in by the register r: they meet its first n digits, and the others move up
 pub fold-in : (r : ℕ) (f : ℕ → ℕ) (n : ℕ) → r < 2 ^ 32 → n ≤ 32 → Bits f
     → remFrom r f n ≡ bitXor (r * 2 ^ n % 2 ^ 32) (remOf (λ i. (digit 32 r i + f i) % 2) n)
 unfolding remFrom step
@@ -75,6 +77,7 @@ fold-in r f (suc n) h l b =
 pub place-lt : (r b : ℕ) → r < 2 ^ 32 → b < 256 → bitXor (r / 2 ^ 24) b < 256
 place-lt r b h k = xor-lt 8 (r / 2 ^ 24) b (shr-lt 8 24 h) k
 
+-- a byte by the table is its eight bits
 byte-step : (s : List ℕ) (k r : ℕ) → Bytes s → r < 2 ^ 32 → byteStep entries s k r ≡ remFrom r (digit 8 (getD s k 0)) 8
 unfolding byteStep
 byte-step s k r hs h =
@@ -103,6 +106,7 @@ bytes-rem t s start e hs h = ap (λ (x : List ℕ). remBy x start s) e ∙ bytes
 
 -- ---- the first 32 bits complemented
 
+-- n ones and zeros behind them
 opening-cut : (n : ℕ) → n ≤ 32 → opening n ≡ (2 ^ n - 1) * 2 ^ (32 - n)
 unfolding opening
 opening-cut n h =

@@ -37,7 +37,10 @@ returns c =
     let c3 = c4 .before in
     let c2 = c3 .before in
     let c1 = c2 .before in
-    steps-join (steps-join (steps-join (steps-join (steps-join (steps-join (steps-join (c1 .next .ensures) (c2 .next2 .ensures)) (c3 .next3 .ensures)) (c4 .next4 .ensures)) (c5 .next5 .ensures)) (c6 .next6 .ensures)) (c7 .next7 .ensures)) (c .next8 .ensures)
+    let two = steps-join (c1 .next .ensures) (c2 .next2 .ensures) in
+    let four = steps-join two (steps-join (c3 .next3 .ensures) (c4 .next4 .ensures)) in
+    let six = steps-join four (steps-join (c5 .next5 .ensures) (c6 .next6 .ensures)) in
+    steps-join six (steps-join (c7 .next7 .ensures) (c .next8 .ensures))
 
 pub next8-spec : {M : Type 1} → statement M
 next8-spec =
