@@ -101,3 +101,9 @@ pub num-zero : (w : ℕ) (f : ℕ → ℕ) (a : ℕ) → ((j : ℕ) → j < w �
 unfolding num
 num-zero zero f a h = refl
 num-zero (suc w) f a h = rw (num-zero w f a (λ j l. h j (omega arith)), h w (omega arith))
+
+-- v digits of a number of w digits, from digit a on
+pub num-part : (w v a x : ℕ) → x < 2 ^ w → a + v ≤ w → num v (digit w x) a ≡ x / 2 ^ (w - (a + v)) % 2 ^ v
+num-part w v a x h l =
+    ap (num v (digit w x)) (sym (zero-add a)) ∙ sym (num-back a v (digit w x) 0 (digit-lt w x))
+    ∙ ap (λ (y : ℕ). y % 2 ^ v) (digits-front w (a + v) x h l)

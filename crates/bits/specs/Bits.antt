@@ -37,8 +37,8 @@ byteOf f k = num 8 f (8 * k)
 abbrev pub pack : ℕ → (ℕ → ℕ) → List ℕ
 pack n f = packs 8 n f
 
--- the bits of f from bit a on
-abbrev pub from : (ℕ → ℕ) → ℕ → ℕ → ℕ
+-- the values of f from index a on
+abbrev pub from : {A : Type 0} → (ℕ → A) → ℕ → ℕ → A
 from f a i = f (a + i)
 
 -- bit by bit, the sum without carries

@@ -1,13 +1,18 @@
 -- The steps on the way from an element to its word, as the code takes them. Assumes nothing: these are definitions.
-use Prim.Native.Nat.{ℕ, _+_, _-_, _*_, _/_, _%_, _<_}
-use mathlib.Core.Bool.{cond}
+use Prim.Native.Nat.{ℕ, _+_, _-_, _*_, _/_, _%_, _≤_, _<_}
+use mathlib.Core.Bool.{Bool, true, false, cond, not}
 use mathlib.Core.Path.{_≡_}
-use mathlib.Core.List.{List}
-use lib.Dec.{ltb}
+use mathlib.Core.List.{List, [], _∷_}
+use lib.Dec.{ltb, eqb}
 use lib.ListN.{getD, length}
-use Rattle.bits.specs.Bits.{digit, Bytes}
-use Rattle.line.specs.Sizes.{elementBits, superElements, infoLength, parityLength}
-use Rattle.line.specs.Fec.{blockCrc}
+use Rattle.bits.specs.Bits.{digit, pack}
+use Rattle.answer.specs.Numbers.{outsideSet, wrongLength}
+use Rattle.answer.specs.Rows.{done, refused, bufferPlace}
+use Rattle.answer.specs.declared.Answer.{Answer}
+use Rattle.hamming.specs.Lent.{byteTable, tailTable}
+use Rattle.scrambler.specs.Scrambler.{o}
+use Rattle.line.specs.Sizes.{elementBits, superElements, superBytes, infoLength, parityLength, captureLength, words}
+use Rattle.line.specs.Fec.{mbasAllowed, blockCrc}
 use Rattle.line.specs.Frames.{superOf}
 
 -- two bit functions agree on the 119 bits of an element
@@ -22,6 +27,10 @@ plainBit F e i = superOf F (e / superElements) (elementBits * (e % superElements
 unfoldable pub tailBit : ℕ → ℕ → (ℕ → ℕ) → ℕ → ℕ
 tailBit crc mbas parity i = cond (ltb i 32) (digit 32 crc i) (cond (ltb i 38) (digit 6 mbas (i - 32)) (parity (i - 38)))
 
+-- entry k of a list of numbers
+abbrev pub entry : List ℕ → ℕ → ℕ
+entry s k = getD s k 0
+
 -- the CRCs of the FEC blocks of N super frames
 pub record Crcs (N : ℕ) (info crcs : List ℕ) : Type 0 where
   pub is : (t : ℕ) → t < 5 * N → getD crcs t 0 ≡ blockCrc info t
@@ -31,3 +40,22 @@ pub record Granted (N : ℕ) (info par : List ℕ) : Type 0 where
   pub few : N < 9
   pub information : length info ≡ infoLength N
   pub parity : length par ≡ parityLength N
+
+-- the same, with the tables that every word needs
+pub record Ready (N : ℕ) (info par crcs sequence table tails : List ℕ) : Type 0 where
+  pub few : N < 9
+  pub blocks : Crcs N info crcs
+  pub scrambles : sequence ≡ pack superBytes o
+  pub checks : table ≡ byteTable
+  pub closes : tails ≡ tailTable
+
+-- the answer as the code finds it, from the numbers and the buffers' lengths
+unfoldable pub judged : ℕ → ℕ → ℕ → ℕ → ℕ → Answer
+judged N m0 info par cap =
+    cond (ltb N 1) (refused outsideSet 0)
+    (cond (ltb 8 N) (refused outsideSet 0)
+    (cond (not (mbasAllowed m0)) (refused outsideSet 0)
+    (cond (not (eqb info (infoLength N))) (refused wrongLength (bufferPlace 1))
+    (cond (not (eqb par (parityLength N))) (refused wrongLength (bufferPlace 2))
+    (cond (not (eqb cap (captureLength N))) (refused wrongLength (bufferPlace 3))
+    (done (words N)))))))
