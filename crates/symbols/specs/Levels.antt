@@ -1,6 +1,8 @@
 -- DP-16QAM symbols, 001 section 11 and Table 12: byte k of a word is symbol k. Assumes nothing: these are definitions.
 use Prim.Native.Nat.{ℕ, zero, suc, _+_, _*_, _/_, _%_}
+use mathlib.Core.Bool.{cond}
 use lib.IntN.{ℤ, pos, negsuc}
+use lib.Signed.{ltZ}
 use Rattle.bits.specs.Bits.{digit}
 use Rattle.symbols.specs.declared.Symbol.{Symbol}
 
@@ -11,14 +13,9 @@ levelOf zero (suc b) = negsuc 0
 levelOf (suc a) (suc b) = pos 1
 levelOf (suc a) zero = pos 3
 
--- the level nearest to a number, as a pair of bits, the first on top; of two as near, the larger
+-- the pair of bits, the first on top, whose level is nearest to v; of two as near, the larger
 unfoldable pub pairOf : ℤ → ℕ
-pairOf (negsuc (suc (suc n))) = 0
-pairOf (negsuc (suc zero)) = 1
-pairOf (negsuc zero) = 1
-pairOf (pos zero) = 3
-pairOf (pos (suc zero)) = 3
-pairOf (pos (suc (suc n))) = 2
+pairOf v = cond (ltZ v (negsuc 1)) 0 (cond (ltZ v (pos 0)) 1 (cond (ltZ v (pos 2)) 3 2))
 
 -- the symbol of a byte: c0 c1 are the in-phase component of the X polarization, c2 c3 its quadrature, c4 c5 and c6 c7 those of Y
 unfoldable pub symbolOf : ℕ → Symbol

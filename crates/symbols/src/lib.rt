@@ -37,7 +37,7 @@ pub fn pair(v: i8) -> u8
 }
 
 // The symbol of a byte.
-pub fn symbol(x: u8) -> Symbol
+pub fn symbol_of(x: u8) -> Symbol
     ensures { λ r. ⌜ r ≡ symbolOf x ⌝ }
 {
     Symbol {
@@ -49,7 +49,7 @@ pub fn symbol(x: u8) -> Symbol
 }
 
 // The byte of a symbol.
-pub fn symbol_byte(s: Symbol) -> u8
+pub fn byte_of(s: Symbol) -> u8
     ensures { λ r. ⌜ r ≡ byteOfSymbol s ⌝ }
 {
     64 * pair(s.xi) + 16 * pair(s.xq) + 4 * pair(s.yi) + pair(s.yq)
