@@ -1,0 +1,29 @@
+use Rattle.symbols.proofs.Amplitudes.{symbol-is}
+use borrow.Author.Needs.{needs}
+use Rattle.symbols.proofs.symbol_of.Statement.{statement}
+use Rattle.symbols.proofs.symbol_of.Tie as tie
+use Rattle.symbols.proofs.symbol_of.Reads as reads
+use Rattle.symbols.proofs.symbol_of.Lts as lts
+use Rattle.symbols.proofs.level.Reads as level-reads
+
+level-requires : tie.Need-level-requires
+level-requires c κs = search needs
+
+level-requires-2 : tie.Need-level-requires-2
+level-requires-2 c κs = search needs
+
+level-requires-3 : tie.Need-level-requires-3
+level-requires-3 c κs = search needs
+
+level-requires-4 : tie.Need-level-requires-4
+level-requires-4 c κs = search needs
+
+returns : tie.Need-returns
+returns c =
+    symbol-is (c .before .before .before .before .args .x)
+    (c .before .before .before .level .result) (c .before .before .level2 .result) (c .before .level3 .result) (c .level4 .result)
+    (c .before .before .before .level .ensures) (c .before .before .level2 .ensures) (c .before .level3 .ensures) (c .level4 .ensures)
+
+pub symbol-of-spec : {M : Type 1} → statement M
+symbol-of-spec =
+    tie.close (tie.spec level-requires level-requires-2 level-requires-3 level-requires-4 returns)

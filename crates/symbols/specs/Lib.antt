@@ -1,0 +1,3 @@
+-- What the contracts of `symbols` are stated in.
+pub mod Levels
+pub mod Group
