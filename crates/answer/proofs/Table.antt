@@ -191,3 +191,8 @@ faults k n (false ∷ bs) i rows c h = faults k n bs (suc i) rows c (omega arith
 -- numbers 2 and 3: the lent buffers tested one by one
 pub row-buffers : (k : ℕ) (bs : List Bool) (rows : List Row) (c : ℕ) → answerOf (buffers k bs ∷ rows) c ≡ inTurn k bs 1 (answerOf rows c)
 row-buffers k bs rows c = faults k (suc (length bs)) bs 1 rows c (omega arith)
+
+-- a test that refuses by a number other than 0 was passed where the answer is done
+pub guard : (t : Bool) (k p : ℕ) (next : Answer) → 0 < k → (cond t (refused k p) next) .number ≡ allDone → (t ≡ false) × (next .number ≡ allDone)
+guard true k p next h e = absurd (omega arith)
+guard false k p next h e = (refl, e)

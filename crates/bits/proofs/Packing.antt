@@ -1,10 +1,10 @@
 -- The bits of a list of w-bit elements and the elements made of bits, over the width. Assumes nothing.
 use Prim.Native.Nat.{ℕ, zero, suc, _+_, _-_, _*_, _/_, _%_, _^_, _≤_, _<_}
-use mathlib.Core.Path.{_≡_, sym, ap, _∙_}
+use mathlib.Core.Path.{_≡_, refl, sym, ap, _∙_}
 use mathlib.Core.List.{List}
 use native.Mathlib.Nat.{add-zero, mul-comm, zero-add, div-eq-of-lt, mod-lt, mul-add-div, mul-add-mod-self-left, mod-eq-of-lt, sub-self, div-one, div-lt-iff-lt-mul, div-add-mod, zero-mul, zero-div, mul-le-mul-left, mul-add, mul-one, add-comm, add-assoc}
 use native.Mathlib.Omega.{arith}
-use lib.ListN.{length, getD, take, drop, List·getD-eq-default}
+use lib.ListN.{length, getD, take, drop, replicate, List·getD-eq-default}
 use lib.Seq.{getD-take, getD-drop}
 use Rattle.bits.specs.Bits.{tabulate, num, digit, bitOf, packs, from, Bits}
 use Rattle.bits.proofs.Lists.{length-tabulate, getD-tabulate, tabulate-ext, tabulate-getD}
@@ -97,3 +97,13 @@ bitOf-part w s a n i l =
     let d : (w * a + i) / w ≡ a + i / w = mul-add-div p a i in
     let m : (w * a + i) % w ≡ i % w = mul-add-mod-self-left w a i in
     rw (d, m, getD-take n (drop a s) (i / w) 0 q, getD-drop a s (i / w) 0)
+
+-- nothing but zeros
+pub getD-zeros : (n k : ℕ) → _≡_ {A = ℕ} (getD (replicate n 0) k 0) 0
+getD-zeros zero k = refl
+getD-zeros (suc n) zero = refl
+getD-zeros (suc n) (suc k) = getD-zeros n k
+
+pub bitOf-zeros : (w n i : ℕ) → bitOf w (replicate n 0) i ≡ 0
+unfolding bitOf digit
+bitOf-zeros w n i = rw (getD-zeros n (i / w), zero-div)

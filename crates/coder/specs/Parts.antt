@@ -12,6 +12,7 @@ use Rattle.answer.specs.declared.Answer.{Answer}
 use Rattle.hamming.specs.Lent.{byteTable, tailTable}
 use Rattle.scrambler.specs.Scrambler.{o}
 use Rattle.line.specs.Sizes.{elementBits, superElements, superBytes, infoLength, parityLength, captureLength, words}
+use Rattle.line.specs.Captures.{superAllowed}
 use Rattle.line.specs.Fec.{mbasAllowed, blockCrc}
 use Rattle.line.specs.Frames.{superOf}
 
@@ -52,10 +53,9 @@ pub record Ready (N : ℕ) (info par crcs sequence table tails : List ℕ) : Typ
 -- the answer as the code finds it, from the numbers and the buffers' lengths
 unfoldable pub judged : ℕ → ℕ → ℕ → ℕ → ℕ → Answer
 judged N m0 info par cap =
-    cond (ltb N 1) (refused outsideSet 0)
-    (cond (ltb 8 N) (refused outsideSet 0)
+    cond (not (superAllowed N)) (refused outsideSet 0)
     (cond (not (mbasAllowed m0)) (refused outsideSet 0)
     (cond (not (eqb info (infoLength N))) (refused wrongLength (bufferPlace 1))
     (cond (not (eqb par (parityLength N))) (refused wrongLength (bufferPlace 2))
     (cond (not (eqb cap (captureLength N))) (refused wrongLength (bufferPlace 3))
-    (done (words N)))))))
+    (done (words N))))))

@@ -4,3 +4,4 @@ pub mod FecLaws
 pub mod FrameLaws
 pub mod SlotLaws
 pub mod WordLaws
+pub mod CaptureLaws

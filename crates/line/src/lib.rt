@@ -3,9 +3,17 @@ ghost use mathlib.Core.Path.{_≡_};
 ghost use Prim.Native.Nat.{_<_};
 ghost use lib.ListN.{getD};
 ghost use Rattle.bits.specs.Bits.{bitAt, pack, added};
+ghost use Rattle.line.specs.Captures.{superAllowed};
 ghost use Rattle.line.specs.Fec.{mbasAllowed, mbasOf};
 ghost use Rattle.line.specs.Slots.{delay, elementIn, holds};
 ghost use Rattle.line.specs.Words.{symbolPlace, wordIn};
+
+// Whether a capture may have n super frames.
+pub fn super_allowed(n: u64) -> bool
+    ensures { λ r. ⌜ r ≡ superAllowed n ⌝ }
+{
+    1 <= n && n <= 8
+}
 
 // Whether a caller may count the FEC blocks from m0 on.
 pub fn mbas_allowed(m0: u64) -> bool

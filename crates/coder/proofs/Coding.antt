@@ -1,0 +1,68 @@
+-- From an element to its word, from words to their group, from groups to the capture. Assumes nothing.
+use Prim.Native.Nat.{ℕ, _+_, _-_, _*_, _/_, _%_, _^_, _≤_, _<_}
+use mathlib.Core.Bool.{true, false}
+use mathlib.Core.Path.{_≡_, refl, sym, ap, ap₂, _∙_}
+use mathlib.Core.List.{List, []}
+use native.Mathlib.Omega.{arith}
+use lib.ListN.{getD, replicate}
+use Rattle.bits.specs.Bits.{tabulate, bitOf, bitAt, pack, from, added, Bits}
+use Rattle.bits.proofs.Lists.{getD-tabulate, tabulate-ext}
+use Rattle.bits.proofs.Packing.{bitOf-lt, bitOf-packs}
+use Rattle.hamming.specs.Code.{coded, wordOf}
+use Rattle.hamming.specs.Lent.{byteTable, tailTable, wordBy}
+use Rattle.hamming.proofs.Words.{coded-ext, coded-zero}
+use Rattle.hamming.proofs.Tabled.{by-word}
+use Rattle.scrambler.specs.Scrambler.{o}
+use Rattle.scrambler.proofs.Rule.{o-lt}
+use Rattle.symbols.specs.Group.{symbolAt, laidByte, laidGroup}
+use Rattle.line.specs.Sizes.{elementBits, superElements, superBytes, captureLength, words}
+use Rattle.line.specs.Frames.{superOf, elementOf}
+use Rattle.line.specs.Slots.{elementIn, holds, slotBit}
+use Rattle.line.specs.Words as place
+use Rattle.line.specs.Words.{wordAt, laid, wordsOf}
+use Rattle.line.proofs.SlotLaws.{filler-bit, held-bit}
+use Rattle.coder.specs.Parts.{Agree, plainBit, entry, Ready}
+
+-- ---- words
+
+pub word-filler : (N : ℕ) (F : ℕ → ℕ → ℕ) (w : ℕ) → holds N w ≡ false → replicate 16 0 ≡ wordsOf N F w
+unfolding wordsOf
+word-filler N F w h =
+    sym (coded-ext (slotBit N (elementOf (superOf F)) w) (λ i. 0) (λ i l. filler-bit N (elementOf (superOf F)) w i h) ∙ coded-zero)
+
+-- the mask of element e: its part of the scrambler's sequence
+mask-bit : (sequence mask : List ℕ) (e i : ℕ) → sequence ≡ pack superBytes o → mask ≡ pack 16 (from (bitAt sequence) (elementBits * (e % superElements)))
+    → i < elementBits → bitAt mask i ≡ o (elementBits * (e % superElements) + i)
+mask-bit sequence mask e i p q h =
+    ap (λ (s : List ℕ). bitAt s i) q
+    ∙ bitOf-packs 8 16 (from (bitAt sequence) (elementBits * (e % superElements))) i (λ j. bitOf-lt 8 sequence (elementBits * (e % superElements) + j)) (omega arith)
+    ∙ ap (λ (s : List ℕ). bitAt s (elementBits * (e % superElements) + i)) p
+    ∙ bitOf-packs 8 superBytes o (elementBits * (e % superElements) + i) o-lt (omega arith)
+
+module _ (N : ℕ) (F : ℕ → ℕ → ℕ) (w : ℕ) (sequence table tails plain mask sum r : List ℕ) where
+  pub word-held : holds N w ≡ true → sequence ≡ pack superBytes o → table ≡ byteTable → tails ≡ tailTable
+      → Agree (bitAt plain) (plainBit F (elementIn w)) → mask ≡ pack 16 (from (bitAt sequence) (elementBits * (elementIn w % superElements)))
+      → sum ≡ pack 16 (added (bitAt plain) (bitAt mask)) → r ≡ wordBy table tails sum → r ≡ wordsOf N F w
+  unfolding wordsOf elementOf plainBit
+  word-held h ps pt pl a pm pa pr =
+      pr ∙ by-word table tails sum pt pl
+      ∙ coded-ext (bitAt sum) (slotBit N (elementOf (superOf F)) w)
+      (λ i l. ap (λ (s : List ℕ). bitAt s i) pa
+      ∙ bitOf-packs 8 16 (added (bitAt plain) (bitAt mask)) i (λ j. omega arith) (omega arith)
+      ∙ ap₂ (λ (x y : ℕ). (x + y) % 2) (a i l) (mask-bit sequence mask (elementIn w) i ps pm l)
+      ∙ sym (held-bit N (elementOf (superOf F)) w i h))
+
+-- ---- groups
+
+-- byte j of group g is a byte of the capture
+pub group-laid : (W : ℕ → List ℕ) (g : ℕ) (ws : List (List ℕ)) (bytes : List ℕ) → ws ≡ tabulate 8 (from W (8 * g)) → bytes ≡ laidGroup ws
+    → tabulate 128 (entry bytes) ≡ tabulate 128 (λ j. getD (W (wordAt (128 * g + j))) (place.symbolAt (128 * g + j)) 0)
+unfolding laidByte symbolAt wordAt place.symbolAt
+group-laid W g ws bytes p q =
+    tabulate-ext 128 (entry bytes) (λ j. getD (W (wordAt (128 * g + j))) (place.symbolAt (128 * g + j)) 0)
+    (λ j l. let d : (128 * g + j) / 128 ≡ g = omega arith in
+    let m : (128 * g + j) % 8 ≡ j % 8 = omega arith in
+    let s : (128 * g + j) % 128 ≡ j = omega arith in
+    rw (d, m, s, q, p)
+    (getD-tabulate 0 128 (laidByte (tabulate 8 (from W (8 * g)))) j l
+    ∙ ap (λ (x : List ℕ). getD x (j / 8) 0) (getD-tabulate [] 8 (from W (8 * g)) (j % 8) (omega arith))))

@@ -1,0 +1,5 @@
+-- The laws of `specs/`.
+pub mod Tails
+pub mod Plain
+pub mod Coding
+pub mod Judging
