@@ -39,17 +39,18 @@ mask-bit sequence mask e i p q h =
     ∙ ap (λ (s : List ℕ). bitAt s (elementBits * (e % superElements) + i)) p
     ∙ bitOf-packs 8 superBytes o (elementBits * (e % superElements) + i) o-lt (omega arith)
 
-module _ (N : ℕ) (F : ℕ → ℕ → ℕ) (w : ℕ) (sequence table tails plain mask sum r : List ℕ) where
-  pub word-held : holds N w ≡ true → sequence ≡ pack superBytes o → table ≡ byteTable → tails ≡ tailTable
-      → Agree (bitAt plain) (plainBit F (elementIn w)) → mask ≡ pack 16 (from (bitAt sequence) (elementBits * (elementIn w % superElements)))
+module _ (N : ℕ) (F : ℕ → ℕ → ℕ) (w e : ℕ) (sequence table tails plain mask sum r : List ℕ) where
+  pub word-held : holds N w ≡ true → e ≡ elementIn w → sequence ≡ pack superBytes o → table ≡ byteTable → tails ≡ tailTable
+      → Agree (bitAt plain) (plainBit F e) → mask ≡ pack 16 (from (bitAt sequence) (elementBits * (e % superElements)))
       → sum ≡ pack 16 (added (bitAt plain) (bitAt mask)) → r ≡ wordBy table tails sum → r ≡ wordsOf N F w
   unfolding wordsOf elementOf plainBit
-  word-held h ps pt pl a pm pa pr =
+  word-held h pe ps pt pl a pm pa pr =
       pr ∙ by-word table tails sum pt pl
       ∙ coded-ext (bitAt sum) (slotBit N (elementOf (superOf F)) w)
       (λ i l. ap (λ (s : List ℕ). bitAt s i) pa
       ∙ bitOf-packs 8 16 (added (bitAt plain) (bitAt mask)) i (λ j. omega arith) (omega arith)
-      ∙ ap₂ (λ (x y : ℕ). (x + y) % 2) (a i l) (mask-bit sequence mask (elementIn w) i ps pm l)
+      ∙ ap₂ (λ (x y : ℕ). (x + y) % 2) (a i l) (mask-bit sequence mask e i ps pm l)
+      ∙ ap (λ (x : ℕ). elementOf (superOf F) x i) pe
       ∙ sym (held-bit N (elementOf (superOf F)) w i h))
 
 -- ---- groups
@@ -66,3 +67,8 @@ group-laid W g ws bytes p q =
     rw (d, m, s, q, p)
     (getD-tabulate 0 128 (laidByte (tabulate 8 (from W (8 * g)))) j l
     ∙ ap (λ (x : List ℕ). getD x (j / 8) 0) (getD-tabulate [] 8 (from W (8 * g)) (j % 8) (omega arith))))
+
+-- the same of what a callee left in the group's part of the capture
+pub group-left : (W : ℕ → List ℕ) (g k : ℕ) (ws : List (List ℕ)) (bytes ys : List ℕ) → k ≡ 128 → ws ≡ tabulate 8 (from W (8 * g)) → bytes ≡ laidGroup ws
+    → ys ≡ tabulate 128 (entry bytes) → ys ≡ tabulate k (λ j. getD (W (wordAt (128 * g + j))) (place.symbolAt (128 * g + j)) 0)
+group-left W g k ws bytes ys p pw pb py = rw p (py ∙ group-laid W g ws bytes pw pb)

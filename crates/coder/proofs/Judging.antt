@@ -51,3 +51,7 @@ accepted N m0 info par cap e =
       parity = eqb-true par (parityLength N) (not-false (eqb par (parityLength N)) (g₄ .0));
       capture = eqb-true cap (captureLength N) (not-false (eqb cap (captureLength N)) (g₅ .0));
     }
+
+-- the same of a value that is the answer
+pub accepted-by : (N m0 info par cap : ℕ) (r : Answer) → r ≡ judged N m0 info par cap → r .number ≡ allDone → Accepted N info par cap
+accepted-by N m0 info par cap r e z = accepted N m0 info par cap (ap (λ (x : Answer). x .number) (sym e) ∙ z)

@@ -4,19 +4,22 @@ use mathlib.Core.Path.{_≡_, refl, sym, ap, _∙_}
 use mathlib.Core.List.{List}
 use native.Mathlib.Nat.{add-assoc}
 use native.Mathlib.Omega.{arith}
-use lib.ListN.{length, replicate}
+use lib.ListN.{length, getD, take, drop, replicate, length-take, length-drop, List·getD-eq-default}
+use lib.Seq.{getD-take, getD-drop}
 use Rattle.bits.specs.Bits.{digit, bitOf, bitAt, pack, from, Bits, Bytes}
 use Rattle.bits.proofs.Packing.{bitOf-lt, bitOf-packs, bitOf-part, bitOf-zeros}
 use Rattle.bits.proofs.Common.{by-bound}
 use Rattle.crc.specs.Crc.{crcOf}
+use Rattle.crc.specs.ByBytes.{entries, crcBy}
 use Rattle.crc.proofs.Changes.{crc-ext}
+use Rattle.crc.proofs.Bytewise.{bytes-crc}
 use Rattle.line.specs.Sizes.{infoBits, crcBits, mbasBits, mbasFrom, parityBits, parityFrom, fecBits, elementBits, superElements, fecElements, fecBlocks, padFrom}
 use Rattle.line.specs.Fec.{fecBit, infoBit, parityBit, blockCrc, mbasOf}
 use Rattle.line.specs.Frames.{superOf}
 use Rattle.line.proofs.FecLaws.{fec-info, fec-crc, fec-mbas, fec-parity}
 use Rattle.line.proofs.FrameLaws.{super-pad, super-fec}
 use Rattle.coder.specs.Parts.{Agree, plainBit, tailBit}
-use Rattle.coder.proofs.Tails.{tail-low, tail-mid, tail-high}
+use Rattle.coder.proofs.Tails.{tail-low, tail-mid, tail-high, tail-bits}
 
 -- ---- which layer an element's bits are of
 
@@ -71,16 +74,57 @@ module _ (m0 : ℕ) (info par : List ℕ) (t : ℕ) where
 
 -- ---- from what a callee packed
 
-pub agree-packed : (r : List ℕ) (g h : ℕ → ℕ) → Bits g → r ≡ pack 16 g → Agree g h → Agree (bitAt r) h
+agree-packed : (r : List ℕ) (g h : ℕ → ℕ) → Bits g → r ≡ pack 16 g → Agree g h → Agree (bitAt r) h
 agree-packed r g h b e a i l = ap (λ (s : List ℕ). bitAt s i) e ∙ bitOf-packs 8 16 g i b (omega arith) ∙ a i l
 
 pub from-bits : (s : List ℕ) (a : ℕ) → Bits (from (bitAt s) a)
 from-bits s a i = bitOf-lt 8 s (a + i)
 
+module _ (m0 : ℕ) (info par r : List ℕ) (e : ℕ) (no-pad : e % superElements < 10970) where
+  abbrev block : ℕ
+  block = 5 * (e / superElements) + e % superElements / fecElements
+
+  abbrev local : ℕ
+  local = e % superElements % fecElements
+
+  abbrev F : ℕ → ℕ → ℕ
+  F = fecBit m0 info par
+
+  pub plain-info : local < 2056 → r ≡ pack 16 (from (bitAt info) (infoBits * block + elementBits * local)) → Agree (bitAt r) (plainBit F e)
+  plain-info h p =
+      agree-packed r (from (bitAt info) (infoBits * block + elementBits * local)) (plainBit F e) (from-bits info (infoBits * block + elementBits * local)) p
+      (λ i l. sym (plain-fec F e i no-pad l ∙ held-info m0 info par block local i h l))
+
+  pub plain-tail : (crc mbas : ℕ) → local ≡ 2056 → crc ≡ blockCrc info block → mbas ≡ mbasOf m0 block
+      → r ≡ pack 16 (tailBit crc mbas (from (bitAt par) (parityBits * block))) → Agree (bitAt r) (plainBit F e)
+  plain-tail crc mbas h pc pm p =
+      agree-packed r (tailBit crc mbas (from (bitAt par) (parityBits * block))) (plainBit F e) (tail-bits crc mbas (from (bitAt par) (parityBits * block)) (from-bits par (parityBits * block))) p
+      (λ i l. let q : elementBits * local + i ≡ infoBits + i = omega arith in
+      rw (pc, pm) (sym (plain-fec F e i no-pad l ∙ ap (F block) q ∙ held-tail m0 info par block i l)))
+
+  pub plain-parity : 2056 < local → r ≡ pack 16 (from (bitAt par) (parityBits * block + (elementBits * (local - 2056) - 38))) → Agree (bitAt r) (plainBit F e)
+  plain-parity h p =
+      agree-packed r (from (bitAt par) (parityBits * block + (elementBits * (local - 2056) - 38))) (plainBit F e)
+      (from-bits par (parityBits * block + (elementBits * (local - 2056) - 38))) p
+      (λ i l. sym (plain-fec F e i no-pad l ∙ held-parity m0 info par block local i h))
+
 -- ---- the CRC of a block's part of the information
 
-pub part-crc : (info : List ℕ) (t : ℕ) (part : List ℕ) → ((i : ℕ) → i < infoBits → bitAt part i ≡ bitAt info (8 * (30583 * t) + i)) → crcOf infoBits (bitAt part) ≡ blockCrc info t
+part-long : (s : List ℕ) (a n : ℕ) → a + n ≤ length s → length (take n (drop a s)) ≡ n
+part-long s a n h = simp (length-take, length-drop) (omega arith)
+
+part-bytes : (s : List ℕ) (a n : ℕ) → Bytes s → Bytes (take n (drop a s))
+part-bytes s a n h k = by-bound n k (λ l. rw (getD-take n (drop a s) k 0 l, getD-drop a s k 0) (h (a + k))) (λ l. rw (List·getD-eq-default (take n (drop a s)) 0 (short l)) (omega arith))
+  where
+    short : n ≤ k → length (take n (drop a s)) ≤ k
+    short l = simp length-take (omega arith)
+
+pub block-part : (table info : List ℕ) (t n : ℕ) → table ≡ entries → Bytes info → 30583 * (t + 1) ≤ length info → n ≡ 30583 → crcBy table (take n (drop (30583 * t) info)) ≡ blockCrc info t
 unfolding blockCrc infoBit
-part-crc info t part h =
-    crc-ext infoBits (bitAt part) (λ i. bitAt info (infoBits * t + i))
-    (λ i l. let p : 8 * (30583 * t) + i ≡ infoBits * t + i = omega arith in h i l ∙ ap (bitAt info) p)
+block-part table info t n e b h p =
+    let part = take n (drop (30583 * t) info) in
+    let long : 8 * length part ≡ infoBits = rw (part-long info (30583 * t) n (omega arith)) (omega arith) in
+    bytes-crc table part e (part-bytes info (30583 * t) n b)
+    ∙ ap (λ (m : ℕ). crcOf m (bitAt part)) long
+    ∙ crc-ext infoBits (bitAt part) (λ i. bitAt info (infoBits * t + i))
+    (λ i l. let q : 8 * (30583 * t) + i ≡ infoBits * t + i = omega arith in bitOf-part 8 info (30583 * t) n i (omega arith) ∙ ap (bitAt info) q)

@@ -1,10 +1,12 @@
 -- The bytes of the element that holds a block's CRC and MBAS. Assumes nothing.
 use Prim.Native.Nat.{ℕ, _+_, _-_, _*_, _/_, _%_, _^_, _≤_, _<_}
+use mathlib.Core.Bool.{Bool, true, false, cond}
 use mathlib.Core.Path.{_≡_, refl, sym, ap, _∙_}
 use mathlib.Core.List.{List}
 use native.Mathlib.Nat.{zero-add, add-zero}
 use native.Mathlib.Omega.{arith}
 use borrow.Author.Tests.{lt-ltb, le-ltb}
+use lib.Dec.{ltb}
 use Rattle.bits.specs.Bits.{num, digit, bitAt, from, Bits}
 use Rattle.bits.proofs.Numbers.{num-ext, num-split, num-front, num-is, num-part, digit-lt}
 use Rattle.bits.proofs.Packing.{bitOf-lt}
@@ -23,6 +25,14 @@ module _ (crc mbas : ℕ) (p : ℕ → ℕ) where
   unfolding tailBit
   tail-high j = let e : 38 + j - 38 ≡ j = omega arith in rw (le-ltb (38 + j) 32 (omega arith), le-ltb (38 + j) 38 (omega arith), e)
 
+  pub tail-bits : Bits p → Bits (tailBit crc mbas p)
+  unfolding tailBit
+  tail-bits b i = pick (ltb i 32) _ _ (digit-lt 32 crc i) (pick (ltb i 38) _ _ (digit-lt 6 mbas (i - 32)) (b (i - 38)))
+    where
+      pick : (t : Bool) (x y : ℕ) → x < 2 → y < 2 → cond t x y < 2
+      pick true x y hx hy = hx
+      pick false x y hx hy = hy
+
   -- the first four bytes
   pub byte-crc : (k : ℕ) → k < 4 → crc < 2 ^ 32 → crc / 2 ^ (24 - 8 * k) % 256 ≡ num 8 (tailBit crc mbas p) (8 * k)
   byte-crc k h l =
@@ -35,8 +45,8 @@ module _ (crc mbas : ℕ) (p : ℕ → ℕ) where
   byte-mid q h b e =
       let six : num 6 (tailBit crc mbas p) 32 ≡ mbas = num-is 6 (tailBit crc mbas p) 32 mbas h tail-mid in
       let two : num 2 (tailBit crc mbas p) 38 ≡ q / 64 =
-          num-ext 2 (tailBit crc mbas p) p 38 0 (λ j l. tail-high j ∙ ap p (sym (zero-add j)))
-          ∙ sym (num-front 2 6 p 0 b) ∙ ap (λ (x : ℕ). x / 64) (sym e) in
+      num-ext 2 (tailBit crc mbas p) p 38 0 (λ j l. tail-high j ∙ ap p (sym (zero-add j)))
+      ∙ sym (num-front 2 6 p 0 b) ∙ ap (λ (x : ℕ). x / 64) (sym e) in
       sym (num-split 6 2 (tailBit crc mbas p) 32 ∙ rw (six, two))
 
 -- the others

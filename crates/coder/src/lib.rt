@@ -1,1 +1,228 @@
-// coder
+// Coding: information and parity in, a capture out.
+use answer::Answer;
+ghost use mathlib.Core.Path.{_≡_};
+ghost use Prim.Native.Nat.{_+_, _*_, _^_, _≤_, _<_};
+ghost use lib.ListN.{length};
+ghost use Rattle.bits.specs.Bits.{tabulate, bitAt, byteOf, pack, from};
+ghost use Rattle.answer.specs.Outcomes.{Outcome};
+ghost use Rattle.crc.specs.ByBytes.{entries};
+ghost use Rattle.line.specs.Sizes.{infoLength, captureLength, words};
+ghost use Rattle.line.specs.Fec.{fecBit, blockCrc};
+ghost use Rattle.line.specs.Words.{wordsOf};
+ghost use Rattle.coder.specs.Code.{captureOf, codeAnswer, codeLeaves};
+ghost use Rattle.coder.specs.Parts.{Agree, plainBit, tailBit, entry, Crcs, Granted, Ready, judged};
+
+// Codes n super frames whose FEC blocks count from m0 on. The count is the number of words written.
+pub fn code(n: u64, m0: u64, info: &[u8], parity: &[u8], capture: &mut [u8]) -> Answer
+    ensures { λ r. ⌜ Outcome (codeAnswer n m0 (now (info .entry)) (now (parity .entry)) (now (capture .entry)))
+        (codeLeaves n m0 (now (info .entry)) (now (parity .entry)) (now (capture .entry))) r (now (capture .exit)) ⌝ }
+{
+    let r = judge(
+        n,
+        m0,
+        info.len() as u64,
+        parity.len() as u64,
+        capture.len() as u64,
+    );
+    if r.number == 0 {
+        code_all(n as usize, m0, info, parity, capture);
+    }
+    r
+}
+
+// The answer, from the numbers alone.
+fn judge(n: u64, m0: u64, info: u64, parity: u64, capture: u64) -> Answer
+    ensures { λ r. ⌜ r ≡ judged n m0 info parity capture ⌝ }
+{
+    if !line::super_allowed(n) {
+        return answer::refuse(answer::OUTSIDE_SET, 0);
+    }
+    if !line::mbas_allowed(m0) {
+        return answer::refuse(answer::OUTSIDE_SET, 0);
+    }
+    if info != 152915 * n {
+        return answer::refuse(answer::WRONG_LENGTH, answer::buffer_place(1));
+    }
+    if parity != 10240 * n {
+        return answer::refuse(answer::WRONG_LENGTH, answer::buffer_place(2));
+    }
+    if capture != 175616 * n + 7680 {
+        return answer::refuse(answer::WRONG_LENGTH, answer::buffer_place(3));
+    }
+    answer::granted(10976 * n + 480)
+}
+
+// Makes the tables that every word needs, once, and codes.
+fn code_all(n: usize, m0: u64, info: &[u8], parity: &[u8], capture: &mut [u8])
+    requires { ⌜ Granted n (now info) (now parity) × (length (now capture) ≡ captureLength n) ⌝ }
+    ensures { λ _. ⌜ now (capture .exit) ≡ captureOf n m0 (now (info .entry)) (now (parity .entry)) ⌝ }
+{
+    let crcs = block_crcs(n, info);
+    let sequence = scrambler::sequence();
+    let table = hamming::byte_table();
+    let tails = hamming::tail_table();
+    write_groups(
+        n,
+        m0,
+        info,
+        parity,
+        &crcs,
+        &sequence,
+        &table,
+        &tails,
+        capture,
+    );
+}
+
+// The CRCs of the FEC blocks, at most forty.
+fn block_crcs(n: usize, info: &[u8]) -> [u32; 40]
+    requires { ⌜ (n < 9) × (length (now info) ≡ infoLength n) ⌝ }
+    ensures { λ r. ⌜ Crcs n (now (info .entry)) r ⌝ }
+{
+    let table = crc::table();
+    let mut crcs = [0u32; 40];
+    for t in 0..5 * n {
+        crcs[t] = block_crc(&table, info, t);
+    }
+    crcs
+}
+
+// The CRC of FEC block t.
+fn block_crc(table: &[u32; 256], info: &[u8], t: usize) -> u32
+    requires { ⌜ (now table ≡ entries) × (30583 * (t + 1) ≤ length (now info)) × (t < 40) ⌝ }
+    ensures { λ r. ⌜ r ≡ blockCrc (now (info .entry)) t ⌝ }
+{
+    let from = 30583 * t;
+    crc::crc(table, &info[from..from + 30583])
+}
+
+// All words, a group of eight at a time.
+fn write_groups(
+    n: usize,
+    m0: u64,
+    info: &[u8],
+    parity: &[u8],
+    crcs: &[u32; 40],
+    sequence: &[u8],
+    table: &[u16; 4096],
+    tails: &[u16; 512],
+    capture: &mut [u8],
+)
+    requires { ⌜ Ready n (now info) (now parity) (now crcs) (now sequence) (now table) (now tails) × (length (now capture) ≡ captureLength n) ⌝ }
+    ensures { λ _. ⌜ now (capture .exit) ≡ captureOf n m0 (now (info .entry)) (now (parity .entry)) ⌝ }
+{
+    for g in 0..1372 * n + 60 {
+        let words = group(n, m0, info, parity, crcs, sequence, table, tails, g);
+        let from = 128 * g;
+        put_group(&mut capture[from..from + 128], symbols::interleave(words));
+    }
+}
+
+// Words 8 g .. 8 g + 7.
+fn group(
+    n: usize,
+    m0: u64,
+    info: &[u8],
+    parity: &[u8],
+    crcs: &[u32; 40],
+    sequence: &[u8],
+    table: &[u16; 4096],
+    tails: &[u16; 512],
+    g: usize,
+) -> [[u8; 16]; 8]
+    requires { ⌜ Ready n (now info) (now parity) (now crcs) (now sequence) (now table) (now tails) × (g < 1372 * n + 60) ⌝ }
+    ensures { λ r. ⌜ r ≡ tabulate 8 (from (wordsOf n (fecBit m0 (now (info .entry)) (now (parity .entry)))) (8 * g)) ⌝ }
+{
+    let mut words = [[0u8; 16]; 8];
+    for j in 0..8 {
+        words[j] = word(n, m0, info, parity, crcs, sequence, table, tails, 8 * g + j);
+    }
+    words
+}
+
+// Word w: an element, scrambled and coded, or filler.
+fn word(
+    n: usize,
+    m0: u64,
+    info: &[u8],
+    parity: &[u8],
+    crcs: &[u32; 40],
+    sequence: &[u8],
+    table: &[u16; 4096],
+    tails: &[u16; 512],
+    w: usize,
+) -> [u8; 16]
+    requires { ⌜ Ready n (now info) (now parity) (now crcs) (now sequence) (now table) (now tails) × (w < words n) ⌝ }
+    ensures { λ r. ⌜ r ≡ wordsOf n (fecBit m0 (now (info .entry)) (now (parity .entry))) w ⌝ }
+{
+    if !line::holds_element(n, w) {
+        return [0u8; 16];
+    }
+    let e = line::element_in(w);
+    let plain = plain_element(n, m0, info, parity, crcs, e);
+    let mask = bits::word_from(sequence, 119 * (e % 10976));
+    hamming::encode_by(table, tails, line::sum(plain, mask))
+}
+
+// Element e before it is scrambled. Only its 119 bits count: those behind them are of whatever follows.
+fn plain_element(
+    n: usize,
+    m0: u64,
+    info: &[u8],
+    parity: &[u8],
+    crcs: &[u32; 40],
+    e: usize,
+) -> [u8; 16]
+    requires { ⌜ (n < 9) × Crcs n (now info) (now crcs) × (e < 10976 * n) ⌝ }
+    ensures { λ r. ⌜ Agree (bitAt r) (plainBit (fecBit m0 (now (info .entry)) (now (parity .entry))) e) ⌝ }
+{
+    let l = e % 10976;
+    if 10970 <= l {
+        return [0u8; 16];
+    }
+    let t = 5 * (e / 10976) + l / 2194;
+    let m = l % 2194;
+    if m < 2056 {
+        return bits::word_from(info, 244664 * t + 119 * m);
+    }
+    if m == 2056 {
+        return tail_element(crcs[t], line::mbas(m0, t as u64), parity, 16384 * t);
+    }
+    bits::word_from(parity, 16384 * t + (119 * (m - 2056) - 38))
+}
+
+// The element of a block's CRC and MBAS, with the parity from bit `at` on behind them.
+fn tail_element(crc: u32, mbas: u8, parity: &[u8], at: usize) -> [u8; 16]
+    requires { ⌜ (mbas < 64) × (at < 2 ^ 32) ⌝ }
+    ensures { λ r. ⌜ r ≡ pack 16 (tailBit crc mbas (from (bitAt (now (parity .entry))) at)) ⌝ }
+{
+    let mut r = [0u8; 16];
+    for k in 0..16 {
+        r[k] = tail_byte(crc, mbas, parity, at, k);
+    }
+    r
+}
+
+// Byte k of it: four of CRC, one that MBAS and parity share, then parity.
+fn tail_byte(crc: u32, mbas: u8, parity: &[u8], at: usize, k: usize) -> u8
+    requires { ⌜ (mbas < 64) × (at < 2 ^ 32) × (k < 16) ⌝ }
+    ensures { λ r. ⌜ r ≡ byteOf (tailBit crc mbas (from (bitAt (now (parity .entry))) at)) k ⌝ }
+{
+    if k < 4 {
+        return ((crc >> (24 - 8 * k)) % 256) as u8;
+    }
+    if k == 4 {
+        return mbas * 4 + bits::byte_from(parity, at) / 64;
+    }
+    bits::byte_from(parity, at + (8 * k - 38))
+}
+
+// Stores the 128 bytes of a group.
+fn put_group(out: &mut [u8], group: [u8; 128])
+    requires { ⌜ length (now out) ≡ 128 ⌝ }
+    ensures { λ _. ⌜ now (out .exit) ≡ tabulate 128 (entry group) ⌝ }
+{
+    for k in 0..128 {
+        out[k] = group[k];
+    }
+}

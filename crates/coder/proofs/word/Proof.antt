@@ -1,0 +1,71 @@
+-- `coder::word` meets its contract. Assumes nothing.
+use mathlib.Core.Bool.{true}
+use mathlib.Core.Path.{_≡_, sym, _∙_}
+use borrow.Author.Tests.{not-true, not-false}
+use denote.Ref.{now}
+use Rattle.line.specs.Fec.{fecBit}
+use Rattle.line.specs.Slots.{holds}
+use Rattle.line.proofs.SlotLaws.{held}
+use Rattle.coder.proofs.Coding.{word-filler, word-held}
+use borrow.Author.Needs.{needs}
+use Rattle.coder.proofs.word.Statement.{statement}
+use Rattle.coder.proofs.word.Tie as tie
+use Rattle.coder.proofs.word.Reads as reads
+use Rattle.coder.proofs.word.Lts as lts
+use Rattle.bits.proofs.word_from.Reads as word-from-reads
+use Rattle.coder.proofs.plain_element.Reads as plain-element-reads
+use Rattle.hamming.proofs.encode_by.Reads as encode-by-reads
+use Rattle.line.proofs.element_in.Reads as element-in-reads
+use Rattle.line.proofs.holds_element.Reads as holds-element-reads
+use Rattle.line.proofs.sum.Reads as sum-reads
+
+-- the word was found to hold an element
+holding : (c : tie.Else1) → holds (c .before .before .before .before .before .args .n) (c .before .before .before .before .before .args .w) ≡ true
+holding c = sym (c .before .holds-element .ensures) ∙ not-false (c .before .holds-element .result) (c .if1 .left)
+
+holds-element-requires : tie.Need-holds-element-requires
+holds-element-requires c κs = search needs
+
+returns : tie.Need-returns
+returns c = let a = c .before .before .before .before .before .args in
+    word-filler (a .n) (fecBit (a .m0) (now (a .info)) (now (a .parity))) (a .w) (sym (c .before .holds-element .ensures) ∙ not-true (c .before .holds-element .result) (c .if1 .taken))
+
+element-in-requires : tie.Need-element-in-requires
+element-in-requires c κs = search needs
+
+plain-element-requires : tie.Need-plain-element-requires
+plain-element-requires c κs = let s = c .before .before .before .before .before .before in
+    (s .pre .0 .few, s .pre .0 .blocks, rw (c .element-in .ensures) (held (s .args .n) (s .args .w) (holding (c .before)) .below))
+
+mul-word-from : tie.Need-mul-word-from
+mul-word-from c = search needs
+
+word-from-requires : tie.Need-word-from-requires
+word-from-requires c κs = search needs
+
+sum-requires : tie.Need-sum-requires
+sum-requires c κs = search needs
+
+encode-by-requires : tie.Need-encode-by-requires
+encode-by-requires c κs = search needs
+
+returns-2 : tie.Need-returns-2
+returns-2 c = let s = c .before .before .before .before .before .before .before .before .before .before in
+    let a = s .args in
+    word-held (a .n) (fecBit (a .m0) (now (a .info)) (now (a .parity))) (a .w) (c .before .before .before .before .element-in .result) (now (a .sequence)) (now (a .table)) (now (a .tails))
+    (c .before .before .before .plain-element .result) (c .before .before .word-from .result) (c .before .sum .result) (c .encode-by .result) (holding (c .before .before .before .before .before)) (c .before .before .before .before .element-in .ensures)
+    (s .pre .0 .scrambles) (s .pre .0 .checks) (s .pre .0 .closes) (c .before .before .before .plain-element .ensures) (c .before .before .word-from .ensures) (c .before .sum .ensures) (c .encode-by .ensures)
+
+pub word-spec : {M : Type 1} → statement M
+word-spec =
+    tie.close
+    (tie.spec
+    holds-element-requires
+    returns
+    element-in-requires
+    plain-element-requires
+    mul-word-from
+    word-from-requires
+    sum-requires
+    encode-by-requires
+    returns-2)
