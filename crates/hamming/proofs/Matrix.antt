@@ -1,7 +1,7 @@
 -- What is proved of the matrix: 128 columns of nine digits, all non-zero (the row of ones), all different; the last nine are independent, so
 -- that exactly one choice of the nine check bits makes the checks zero. Each is one test over the whole table.
 -- Assumes nothing.
-use Prim.Native.Nat.{ℕ, _-_, _*_, _/_, _%_, _^_, _<_}
+use Prim.Native.Nat.{ℕ, _-_, _*_, _/_, _%_, _<_}
 use mathlib.Core.Bool.{Bool}
 use mathlib.Core.Path.{_≡_, refl, sym, ap, _∙_}
 use native.Mathlib.Nat.{mul-one}
@@ -14,17 +14,17 @@ use Rattle.bits.proofs.Numbers.{digit-lt}
 use Rattle.bits.proofs.Common.{agree, xor-none}
 use Rattle.bits.proofs.Tables.{both, both-left, both-right, each}
 use Rattle.bits.proofs.Xor.{digit-xor}
-use Rattle.hamming.specs.Columns.{s, _and_, _or_, neg, s7, g, from, _to_, elementOrder, checkOrder, columns, columnOf, placeIn, positionOf}
+use Rattle.hamming.specs.Columns.{columns, columnOf, placeIn, positionOf}
 use Rattle.hamming.specs.Code.{sumTo, taken, tailSum, tailSums, tailOf}
 use Rattle.hamming.proofs.Sums.{taken-xor}
 
 pub columns-long : length columns ≡ 128
-unfolding columns elementOrder checkOrder _to_ from
+unfolding columns
 columns-long = refl
 
 -- the lowest digit of column i is 1, so it is not zero
 pub column-odd : (i : ℕ) → i < 128 → columnOf i % 2 ≡ 1
-unfolding columnOf columns elementOrder checkOrder _to_ from g s7 s _and_ _or_ neg
+unfolding columnOf columns
 column-odd = agree (λ i. columnOf i % 2) (λ i. 1) 128 tt
 
 pub column-not-zero : (i : ℕ) → i < 128 → columnOf i ≡ 0 → ⊥
@@ -32,12 +32,12 @@ column-not-zero i h e = omega (arith, column-odd i h)
 
 -- it has nine digits
 pub column-lt : (i : ℕ) → i < 128 → columnOf i < 512
-unfolding columnOf columns elementOrder checkOrder _to_ from g s7 s _and_ _or_ neg
+unfolding columnOf columns
 column-lt i h = let e : columnOf i / 512 ≡ 0 = agree (λ i. columnOf i / 512) (λ i. 0) 128 tt i h in omega arith
 
 -- its place among the columns is i, so no other has its number
 pub position-column : (i : ℕ) → i < 128 → positionOf (columnOf i) ≡ i
-unfolding positionOf placeIn columnOf columns elementOrder checkOrder _to_ from g s7 s _and_ _or_ neg
+unfolding positionOf placeIn columnOf columns
 position-column = agree (λ i. positionOf (columnOf i)) (λ i. i) 128 tt
 
 pub columns-differ : (i j : ℕ) → i < 128 → j < 128 → columnOf i ≡ columnOf j → i ≡ j
@@ -45,7 +45,7 @@ columns-differ i j h k e = sym (position-column i h) ∙ ap positionOf e ∙ pos
 
 -- an even number is no column
 pub no-column-even : (c : ℕ) → c < 512 → c % 2 ≡ 0 → positionOf c ≡ 128
-unfolding positionOf placeIn columns elementOrder checkOrder _to_ from g s7 s _and_ _or_ neg
+unfolding positionOf placeIn columns
 no-column-even c h e =
     let p : c ≡ 2 * (c / 2) = omega arith in
     ap positionOf p ∙ agree (λ k. positionOf (2 * k)) (λ k. 128) 256 tt (c / 2) (omega arith)
@@ -57,7 +57,7 @@ found : ℕ → ℕ → Bool
 found c p = both (ltb p 512) (eqb (tailSum p) c)
 
 tails-found : (c : ℕ) → c < 512 → T (found c (tailOf c))
-unfolding found tailOf tailSums tailSum sumTo taken tabulate digit placeIn columnOf columns elementOrder checkOrder _to_ from g s7 s _and_ _or_ neg
+unfolding found tailOf tailSums tailSum sumTo taken tabulate digit placeIn columnOf columns
 tails-found = each (λ c. found c (tailOf c)) 512 tt
 
 pub tail-lt : (c : ℕ) → c < 512 → tailOf c < 512
@@ -75,7 +75,7 @@ tail-xor p q = taken-xor 119 (digit 9 p) (digit 9 q) (digit 9 (bitXor p q)) 9 (d
 
 -- they are independent: only no column at all adds zero
 pub only-none : (p : ℕ) → p < 512 → tailSum p ≡ 0 → p ≡ 0
-unfolding tailSum sumTo taken digit columnOf columns elementOrder checkOrder _to_ from g s7 s _and_ _or_ neg
+unfolding tailSum sumTo taken digit columnOf columns
 only-none p h e =
     let t : p * (1 - tailSum p) ≡ 0 = agree (λ p. p * (1 - tailSum p)) (λ p. 0) 512 tt p h in
     sym (mul-one p) ∙ ap (λ (x : ℕ). p * (1 - x)) (sym e) ∙ t

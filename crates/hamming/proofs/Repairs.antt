@@ -1,6 +1,6 @@
 -- What repair does: a code word stays; a code word with one turned bit comes back, whichever bit it was; with two it is beyond repair; and
 -- what is beyond repair stays as it is. Assumes nothing.
-use Prim.Native.Nat.{ℕ, _%_, _^_, _<_, _≤_}
+use Prim.Native.Nat.{ℕ, _%_, _<_, _≤_}
 use mathlib.Core.Bool.{Bool, true, false, cond}
 use mathlib.Core.Path.{_≡_, refl, sym, ap, ap₂, _∙_}
 use mathlib.Core.List.{List}
@@ -11,9 +11,7 @@ use lib.Dec.{eqb, ltb}
 use lib.ListN.{length}
 use Rattle.bits.specs.Bits.{Bytes}
 use Rattle.bits.proofs.Common.{xor-none}
-use Rattle.hamming.specs.declared.Found.{Found}
 use Rattle.hamming.specs.declared.Found.the-variants.{Clean, Turned, Beyond}
-use Rattle.hamming.specs.declared.Repaired.{Repaired}
 use Rattle.hamming.specs.Columns.{columnOf, positionOf}
 use Rattle.hamming.specs.Code.{checksOf, turn}
 use Rattle.hamming.specs.Repair.{answer, repairAt, repairOf}

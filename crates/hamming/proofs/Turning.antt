@@ -1,21 +1,20 @@
 -- A turned bit: which bits a turn changes, and what it does to the checks. Assumes nothing.
 use Prim.Native.Nat.{ℕ, _+_, _*_, _/_, _%_, _^_, _<_}
-use mathlib.Core.Path.{_≡_, refl, sym, ap, ap₂, subst, _∙_}
+use mathlib.Core.Path.{_≡_, sym, ap, subst, _∙_}
 use mathlib.Core.List.{List}
 use native.Mathlib.Nat.{zero-add, div-le-self, lt-of-le-of-lt}
 use native.Mathlib.Decide.{ℕ-discrete}
 use native.Mathlib.Omega.{arith}
 use lib.Bits.{bitXor, xor-lt}
-use lib.Dec.{eqb, lit<}
+use lib.Dec.{lit<}
 use lib.ListN.{length, length-set, getD, set}
 use lib.Seq.{getD-set-same, getD-set-other, set-set, set-getD}
 use Rattle.bits.specs.Bits.{digit, bitOf, bitAt, Bytes}
 use Rattle.bits.proofs.Common.{agree}
 use Rattle.bits.proofs.Packing.{bitOf-lt}
-use Rattle.bits.proofs.Tables.{below, each}
 use Rattle.bits.proofs.Xor.{xor-cancel, digit-xor}
 use Rattle.hamming.specs.Columns.{columnOf}
-use Rattle.hamming.specs.Code.{sumTo, taken, checksOf, turn}
+use Rattle.hamming.specs.Code.{checksOf, turn}
 use Rattle.hamming.proofs.Sums.{unit, unit-same, unit-other, unit-lt, taken-xor, sum-unit}
 
 -- the digits of the byte 128 / 2 ^ a: the only 1 stands at a. The test goes over the 64 pairs

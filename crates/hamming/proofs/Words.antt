@@ -1,24 +1,21 @@
 -- The code word of 119 bits: it is sixteen bytes that begin with them, its checks are zero, and it is the only such word. Assumes nothing.
-use Prim.Native.Nat.{ℕ, zero, suc, _+_, _-_, _*_, _/_, _%_, _^_, _<_, _≤_}
-use mathlib.Core.Bool.{cond}
+use Prim.Native.Nat.{ℕ, zero, suc, _+_, _-_, _*_, _/_, _<_}
 use mathlib.Core.Path.{_≡_, refl, sym, ap, ap₂, _∙_}
 use mathlib.Core.List.{List}
 use native.Mathlib.Nat.{zero-add, zero-div}
 use native.Mathlib.Omega.{arith}
 use borrow.Author.Tests.{lt-ltb, le-ltb}
-use lib.Bits.{bitXor, xor-self, xor-zero-r}
-use lib.Dec.{ltb, lit<}
-use lib.ListN.{length, length-set, getD, set, replicate, getD-replicate}
-use lib.Seq.{getD-set-same, getD-set-other}
-use Rattle.bits.specs.Bits.{tabulate, num, digit, bitOf, bitAt, pack, packs, Bits, Bytes}
+use lib.Bits.{bitXor, xor-self}
+use lib.Dec.{lit<}
+use lib.ListN.{length, getD, replicate, getD-replicate}
+use Rattle.bits.specs.Bits.{num, digit, bitOf, bitAt, pack, packs, Bits, Bytes}
 use Rattle.bits.proofs.Common.{by-bound, xor-none}
-use Rattle.bits.proofs.Lists.{is-table, length-tabulate, getD-tabulate, getD-past}
-use Rattle.bits.proofs.Numbers.{num-lt, num-ext, num-front, num-back, num-digit, num-is, digit-num, digit-lt}
-use Rattle.bits.proofs.Packing.{bitOf-lt, bitOf-packs, num-bitOf, length-packs, packs-bitOf, packs-ext}
-use Rattle.hamming.specs.Columns.{columnOf}
-use Rattle.hamming.specs.Code.{sumTo, taken, checksOf, elementSum, tailSum, tailOf, joined, joinedWord, coded}
+use Rattle.bits.proofs.Lists.{getD-tabulate, getD-past}
+use Rattle.bits.proofs.Numbers.{num-lt, digit-num, digit-lt}
+use Rattle.bits.proofs.Packing.{bitOf-lt, bitOf-packs, length-packs, packs-bitOf, packs-ext}
+use Rattle.hamming.specs.Code.{taken, checksOf, elementSum, tailSum, tailOf, joined, joinedWord, coded}
 use Rattle.hamming.proofs.Sums.{sum-same, sum-zero, sum-lt, sum-split, taken-same, taken-none, taken-lt}
-use Rattle.hamming.proofs.Matrix.{column-lt, tail-lt, tail-sum, tail-back}
+use Rattle.hamming.proofs.Matrix.{column-lt, tail-sum, tail-back}
 
 -- ---- 119 bits and nine
 

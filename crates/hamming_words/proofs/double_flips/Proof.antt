@@ -1,10 +1,8 @@
-use borrow.Author.Needs.{needs}
+-- `hamming_words::double_flips` meets its contract: the count is at most the pairs passed. Assumes nothing.
 use Prim.Native.Nat.{_-_, _≤_}
+use borrow.Author.Needs.{needs}
 use Rattle.hamming_words.proofs.double_flips.Statement.{statement}
 use Rattle.hamming_words.proofs.double_flips.Tie as tie
-use Rattle.hamming_words.proofs.double_flips.Reads as reads
-use Rattle.hamming_words.proofs.double_flips.Lts as lts
-use Rattle.hamming_words.proofs.pair_beyond.Reads as pair-beyond-reads
 
 abbrev Inv-loop : tie.InvT-loop
 Inv-loop t positions w n₀ p₀ n p = (p ≤ 16384) × (n ≤ p)

@@ -1,9 +1,8 @@
-use borrow.Author.Needs.{needs}
+-- `hamming_words::element` meets its contract: the loop stays within the element and ends. Assumes nothing.
 use Prim.Native.Nat.{_-_, _≤_}
+use borrow.Author.Needs.{needs}
 use Rattle.hamming_words.proofs.element.Statement.{statement}
 use Rattle.hamming_words.proofs.element.Tie as tie
-use Rattle.hamming_words.proofs.element.Reads as reads
-use Rattle.hamming_words.proofs.element.Lts as lts
 
 abbrev Inv-loop : tie.InvT-loop
 Inv-loop x y n e₀ k₀ e k = k ≤ 16

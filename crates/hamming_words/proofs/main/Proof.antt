@@ -1,15 +1,8 @@
-use borrow.Author.Needs.{needs}
+-- `hamming_words::main` meets its contract: the loop ends. Assumes nothing.
 use Prim.Native.Nat.{_-_, _≤_}
+use borrow.Author.Needs.{needs}
 use Rattle.hamming_words.proofs.main.Statement.{statement}
 use Rattle.hamming_words.proofs.main.Tie as tie
-use Rattle.hamming_words.proofs.main.Reads as reads
-use Rattle.hamming_words.proofs.main.Lts as lts
-use Rattle.hamming.proofs.byte_table.Reads as byte-table-reads
-use Rattle.hamming.proofs.position_table.Reads as position-table-reads
-use Rattle.hamming_words.proofs.print_flips.Reads as print-flips-reads
-use Rattle.hamming_words.proofs.print_rows.Reads as print-rows-reads
-use Rattle.hamming_words.proofs.print_words.Reads as print-words-reads
-use Rattle.hamming_words.proofs.word.Reads as word-reads
 
 abbrev Inv-loop : tie.InvT-loop
 Inv-loop t positions i₀ i = i ≤ 7

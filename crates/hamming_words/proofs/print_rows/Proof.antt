@@ -1,10 +1,8 @@
-use borrow.Author.Needs.{needs}
+-- `hamming_words::print_rows` meets its contract: the loop ends. Assumes nothing.
 use Prim.Native.Nat.{_-_, _≤_}
+use borrow.Author.Needs.{needs}
 use Rattle.hamming_words.proofs.print_rows.Statement.{statement}
 use Rattle.hamming_words.proofs.print_rows.Tie as tie
-use Rattle.hamming_words.proofs.print_rows.Reads as reads
-use Rattle.hamming_words.proofs.print_rows.Lts as lts
-use Rattle.hamming_words.proofs.print_row.Reads as print-row-reads
 
 abbrev Inv-loop : tie.InvT-loop
 Inv-loop n₀ n = n ≤ 16

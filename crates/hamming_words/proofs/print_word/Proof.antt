@@ -1,12 +1,8 @@
-use borrow.Author.Needs.{needs}
+-- `hamming_words::print_word` meets its contract: the loop stays within the word and ends. Assumes nothing.
 use Prim.Native.Nat.{_-_, _≤_}
+use borrow.Author.Needs.{needs}
 use Rattle.hamming_words.proofs.print_word.Statement.{statement}
 use Rattle.hamming_words.proofs.print_word.Tie as tie
-use Rattle.hamming_words.proofs.print_word.Reads as reads
-use Rattle.hamming_words.proofs.print_word.Lts as lts
-use Rattle.hamming_words.proofs.wide.Reads as wide-reads
-use Rattle.io.proofs.print_hex.Reads as print-hex-reads
-use Rattle.io.proofs.write_all.Reads as write-all-reads
 
 abbrev Inv-loop : tie.InvT-loop
 Inv-loop w k₀ t4 k = k ≤ 16

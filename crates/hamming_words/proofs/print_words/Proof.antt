@@ -1,11 +1,8 @@
-use borrow.Author.Needs.{needs}
+-- `hamming_words::print_words` meets its contract: the loop ends. Assumes nothing.
 use Prim.Native.Nat.{_-_, _≤_}
+use borrow.Author.Needs.{needs}
 use Rattle.hamming_words.proofs.print_words.Statement.{statement}
 use Rattle.hamming_words.proofs.print_words.Tie as tie
-use Rattle.hamming_words.proofs.print_words.Reads as reads
-use Rattle.hamming_words.proofs.print_words.Lts as lts
-use Rattle.hamming_words.proofs.print_word.Reads as print-word-reads
-use Rattle.hamming_words.proofs.word.Reads as word-reads
 
 abbrev Inv-loop : tie.InvT-loop
 Inv-loop i₀ i = i ≤ 4

@@ -1,12 +1,8 @@
-use borrow.Author.Needs.{needs}
+-- `hamming_words::single_flips` meets its contract: the count is at most the flips passed. Assumes nothing.
 use Prim.Native.Nat.{_-_, _≤_}
+use borrow.Author.Needs.{needs}
 use Rattle.hamming_words.proofs.single_flips.Statement.{statement}
 use Rattle.hamming_words.proofs.single_flips.Tie as tie
-use Rattle.hamming_words.proofs.single_flips.Reads as reads
-use Rattle.hamming_words.proofs.single_flips.Lts as lts
-use Rattle.hamming.proofs.repair_by.Reads as repair-by-reads
-use Rattle.hamming_words.proofs.flip.Reads as flip-reads
-use Rattle.hamming_words.proofs.put_right.Reads as put-right-reads
 
 abbrev Inv-loop : tie.InvT-loop
 Inv-loop t positions w n₀ i₀ n i = (i ≤ 128) × (n ≤ i)
