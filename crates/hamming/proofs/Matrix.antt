@@ -1,14 +1,16 @@
 -- What is proved of the matrix: 128 columns of nine digits, all non-zero (the row of ones), all different; the last nine are independent, so
 -- that exactly one choice of the nine check bits makes the checks zero. Each is one test over the whole table.
 -- Assumes nothing.
-use Prim.Native.Nat.{ℕ, _-_, _*_, _/_, _%_, _<_}
-use mathlib.Core.Bool.{Bool}
+use Prim.Native.Nat.{ℕ, suc, _-_, _*_, _/_, _%_, _<_}
+use mathlib.Core.Bool.{Bool, true, false, cond}
+use mathlib.Core.List.{List, [], _∷_}
 use mathlib.Core.Path.{_≡_, refl, sym, ap, _∙_}
-use native.Mathlib.Nat.{mul-one}
+use native.Mathlib.Nat.{mul-one, le-of-suc-le-suc, not-suc-le-zero}
 use native.Mathlib.Omega.{arith}
+use borrow.Author.Tests.{eqb-true}
 use lib.Bits.{bitXor, xor-self, xor-lt}
 use lib.Dec.{T, eqb, ltb, eqb→eq, ltb→lt}
-use lib.ListN.{length}
+use lib.ListN.{length, getD}
 use Rattle.bits.specs.Bits.{tabulate, digit}
 use Rattle.bits.proofs.Numbers.{digit-lt}
 use Rattle.bits.proofs.Common.{agree, xor-none}
@@ -42,6 +44,21 @@ position-column = agree (λ i. positionOf (columnOf i)) (λ i. i) 128 tt
 
 pub columns-differ : (i j : ℕ) → i < 128 → j < 128 → columnOf i ≡ columnOf j → i ≡ j
 columns-differ i j h k e = sym (position-column i h) ∙ ap positionOf e ∙ position-column j k
+
+-- what stands at a place that was found is what was looked for
+place-step : (l : List ℕ) (y x : ℕ) (b : Bool) → eqb y x ≡ b → (placeIn l x < length l → getD l (placeIn l x) 0 ≡ x)
+    → cond b 0 (suc (placeIn l x)) < suc (length l) → getD (y ∷ l) (cond b 0 (suc (placeIn l x))) 0 ≡ x
+place-step l y x true e ih h = eqb-true y x e
+place-step l y x false e ih h = ih (le-of-suc-le-suc h)
+
+place-found : (l : List ℕ) (x : ℕ) → placeIn l x < length l → getD l (placeIn l x) 0 ≡ x
+unfolding placeIn
+place-found [] x h = absurd (not-suc-le-zero h)
+place-found (y ∷ l) x h = place-step l y x (eqb y x) refl (place-found l x) h
+
+pub column-position : (c : ℕ) → positionOf c < 128 → columnOf (positionOf c) ≡ c
+unfolding positionOf columnOf
+column-position c h = place-found columns c (rw columns-long h)
 
 -- an even number is no column
 pub no-column-even : (c : ℕ) → c < 512 → c % 2 ≡ 0 → positionOf c ≡ 128

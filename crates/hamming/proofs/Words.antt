@@ -13,7 +13,8 @@ use Rattle.bits.proofs.Common.{by-bound, xor-none}
 use Rattle.bits.proofs.Lists.{getD-tabulate, getD-past}
 use Rattle.bits.proofs.Numbers.{num-lt, digit-num, digit-lt}
 use Rattle.bits.proofs.Packing.{bitOf-lt, bitOf-packs, length-packs, packs-bitOf, packs-ext}
-use Rattle.hamming.specs.Code.{taken, checksOf, elementSum, tailSum, tailOf, joined, joinedWord, coded}
+use Rattle.hamming.specs.Columns.{columnOf}
+use Rattle.hamming.specs.Code.{sumTo, taken, checksOf, elementSum, tailSum, tailOf, joined, joinedWord, coded, wordOf}
 use Rattle.hamming.proofs.Sums.{sum-same, sum-zero, sum-lt, sum-split, taken-same, taken-none, taken-lt}
 use Rattle.hamming.proofs.Matrix.{column-lt, tail-sum, tail-back}
 
@@ -54,6 +55,11 @@ checks-joined f p b =
     (sum-same (taken 0 v) (taken 0 f) 119 (λ i h. taken-same 0 0 v f i i (joined-bit f p i b (omega arith) ∙ joined-low f p i h) refl))
     (sum-same (λ j. taken 0 v (119 + j)) (taken 119 (digit 9 p)) 9
     (λ j h. taken-same 0 119 v (digit 9 p) (119 + j) j (joined-bit f p (119 + j) b (omega arith) ∙ joined-high f p j) (omega arith)))
+
+-- the checks, term by term
+pub checks-sum : (w : List ℕ) → checksOf w ≡ sumTo (λ i. bitAt w i * columnOf i) 128
+unfolding checksOf taken
+checks-sum w = sum-same (taken 0 (bitAt w)) (λ i. bitAt w i * columnOf i) 128 (λ i h. ap (λ (k : ℕ). bitAt w i * columnOf k) (zero-add i))
 
 pub element-lt : (f : ℕ → ℕ) → Bits f → elementSum f < 512
 unfolding elementSum
@@ -155,3 +161,7 @@ pub coded-zero : coded (λ i. 0) ≡ replicate 16 0
 unfolding checksOf
 coded-zero =
     sym (coded-only (replicate 16 0) (λ i. 0) refl (zero-byte 16) (sum-zero (taken 0 (bitAt (replicate 16 0))) 128 (λ i h. taken-none 0 (bitAt (replicate 16 0)) i (zero-bit i h))) (λ i h. zero-bit i (omega arith)))
+
+-- the element of zeros gives the word of zeros
+pub word-zero : wordOf (replicate 16 0) ≡ replicate 16 0
+word-zero = coded-ext (bitAt (replicate 16 0)) (λ i. 0) (λ i h. zero-bit i (omega arith)) ∙ coded-zero
