@@ -91,7 +91,9 @@ module _ (e : List ℕ) (p : ℕ) (long : length e ≡ 16) (bytes : Bytes e) (sm
   unfolding digit
   shared-byte =
       let f = joined (bitAt e) p in
-      let top : getD e 14 0 / 2 ≡ num 7 f 112 = ap (λ (x : ℕ). x / 2) (sym (num-bitOf 8 e 14 (bytes 14))) ∙ num-front 7 1 (bitAt e) 112 (bitOf-lt 8 e) ∙ num-ext 7 (bitAt e) f 112 112 (λ j l. sym (joined-low (bitAt e) p (112 + j) (omega arith))) in
+      let seven : num 7 (bitAt e) 112 ≡ num 7 f 112 = num-ext 7 (bitAt e) f 112 112 (λ j l. sym (joined-low (bitAt e) p (112 + j) (omega arith))) in
+      let half : num 8 (bitAt e) 112 / 2 ≡ num 7 (bitAt e) 112 = num-front 7 1 (bitAt e) 112 (bitOf-lt 8 e) in
+      let top : getD e 14 0 / 2 ≡ num 7 f 112 = ap (λ (x : ℕ). x / 2) (sym (num-bitOf 8 e 14 (bytes 14))) ∙ half ∙ seven in
       let one : p / 256 ≡ p / 256 % 2 = omega arith in
       ap₂ (λ (x y : ℕ). x * 2 + y) top (one ∙ sym (joined-high (bitAt e) p 0)) ∙ sym (num-more 7 f 112)
 

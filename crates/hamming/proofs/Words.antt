@@ -139,7 +139,8 @@ module _ (w : List ℕ) (long : length w ≡ 16) (bytes : Bytes w) where
   unfolding coded
   coded-own e =
       let f = bitAt w in
-      let sums : elementSum f ≡ tailSum tail-bits = xor-none (elementSum f) (tailSum tail-bits) (sym (checks-joined f tail-bits (bitOf-lt 8 w)) ∙ ap checksOf (sym word-joined) ∙ e) in
+      let none : bitXor (elementSum f) (tailSum tail-bits) ≡ 0 = sym (checks-joined f tail-bits (bitOf-lt 8 w)) ∙ ap checksOf (sym word-joined) ∙ e in
+      let sums : elementSum f ≡ tailSum tail-bits = xor-none (elementSum f) (tailSum tail-bits) none in
       word-joined ∙ ap (joinedWord f) (sym (ap tailOf sums ∙ tail-back tail-bits tail-small (tail-sum-lt tail-bits)))
 
 -- a word of sixteen bytes whose checks are zero and whose first 119 bits are f is the code word of f
@@ -157,10 +158,14 @@ zero-byte zero k = lit< tt
 zero-byte (suc n) zero = lit< tt
 zero-byte (suc n) (suc k) = zero-byte n k
 
-pub coded-zero : coded (λ i. 0) ≡ replicate 16 0
+zero-checks : checksOf (replicate 16 0) ≡ 0
 unfolding checksOf
+zero-checks =
+    let v = bitAt (replicate 16 0) in sum-zero (taken 0 v) 128 (λ i h. taken-none 0 v i (zero-bit i h))
+
+pub coded-zero : coded (λ i. 0) ≡ replicate 16 0
 coded-zero =
-    sym (coded-only (replicate 16 0) (λ i. 0) refl (zero-byte 16) (sum-zero (taken 0 (bitAt (replicate 16 0))) 128 (λ i h. taken-none 0 (bitAt (replicate 16 0)) i (zero-bit i h))) (λ i h. zero-bit i (omega arith)))
+    sym (coded-only (replicate 16 0) (λ i. 0) refl (zero-byte 16) zero-checks (λ i h. zero-bit i (omega arith)))
 
 -- the element of zeros gives the word of zeros
 pub word-zero : wordOf (replicate 16 0) ≡ replicate 16 0
