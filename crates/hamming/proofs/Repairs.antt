@@ -1,23 +1,21 @@
 -- What repair does: a code word stays; a code word with one turned bit comes back, whichever bit it was; with two it is beyond repair; and
 -- what is beyond repair stays as it is. Assumes nothing.
-use Prim.Native.Nat.{ℕ, _%_, _^_, _<_, _≤_}
-use mathlib.Core.Bool.{Bool, true, false, cond}
+use Prim.Native.Nat.{ℕ, _%_, _<_, _≤_}
 use mathlib.Core.Path.{_≡_, refl, sym, ap, ap₂, _∙_}
 use mathlib.Core.List.{List}
+use native.Mathlib.Decide.{ℕ-discrete}
 use native.Mathlib.Omega.{arith}
-use borrow.Author.Tests.{ltb-true, lt-ltb, le-ltb, eq-eqb, ne-eqb}
-use lib.Bits.{bitXor, xor-zero-l, xor-mod}
-use lib.Dec.{eqb, ltb}
+use borrow.Author.Tests.{lt-ltb, le-ltb, eq-eqb, ne-eqb}
+use lib.Bits.{bitXor, xor-self, xor-zero-l, xor-mod}
 use lib.ListN.{length}
 use Rattle.bits.specs.Bits.{Bytes}
-use Rattle.bits.proofs.Common.{xor-none}
-use Rattle.hamming.specs.declared.Found.{Found}
+use Rattle.bits.proofs.Common.{by-bound, xor-none}
 use Rattle.hamming.specs.declared.Found.the-variants.{Clean, Turned, Beyond}
 use Rattle.hamming.specs.declared.Repaired.{Repaired}
 use Rattle.hamming.specs.Columns.{columnOf, positionOf}
 use Rattle.hamming.specs.Code.{checksOf, turn}
 use Rattle.hamming.specs.Repair.{answer, repairAt, repairOf}
-use Rattle.hamming.proofs.Matrix.{column-odd, column-not-zero, columns-differ, position-column, no-column-even}
+use Rattle.hamming.proofs.Matrix.{column-odd, column-not-zero, columns-differ, position-column, column-position, no-column-even}
 use Rattle.hamming.proofs.Turning.{turn-long, turn-bytes, turn-turn, checks-turn}
 use Rattle.hamming.proofs.Words.{checks-lt}
 
@@ -35,36 +33,49 @@ pub at-beyond : (w : List ℕ) (c i : ℕ) → (c ≡ 0 → ⊥) → 128 ≤ i �
 unfolding repairAt
 at-beyond w c i ne h = rw (ne-eqb c 0 ne, le-ltb i 128 h)
 
--- what holds of the word, and of the word with a bit turned, holds of the repaired word
-repaired-by : (P : List ℕ → Type 0) (w : List ℕ) (i : ℕ) (z b : Bool) → P w → (b ≡ true → P (turn w i))
-    → P (cond z (answer w Clean) (cond b (answer (turn w i) (Turned i)) (answer w Beyond)) .word)
-repaired-by P w i true b p q = p
-repaired-by P w i false true p q = q refl
-repaired-by P w i false false p q = p
+-- so what holds in each case holds of the answer
+pub by-case : (P : Repaired → Type 0) (w : List ℕ) (c i : ℕ)
+    → (c ≡ 0 → P (answer w Clean))
+    → ((c ≡ 0 → ⊥) → i < 128 → P (answer (turn w i) (Turned i)))
+    → ((c ≡ 0 → ⊥) → 128 ≤ i → P (answer w Beyond))
+    → P (repairAt w c i)
+by-case P w c i p q r = at-zero (ℕ-discrete c 0)
+  where
+    at-zero : Dec (c ≡ 0) → P (repairAt w c i)
+    at-zero (yes e) = rw (at-clean w c i e) (p e)
+    at-zero (no ne) =
+        by-bound 128 i (λ h. rw (at-turned w c i ne h) (q ne h)) (λ h. rw (at-beyond w c i ne h) (r ne h))
 
-pub repaired-all : (P : List ℕ → Type 0) (w : List ℕ) (c i : ℕ) → P w → (i < 128 → P (turn w i)) → P (repairAt w c i .word)
-unfolding repairAt
-repaired-all P w c i p q = repaired-by P w i (eqb c 0) (ltb i 128) p (λ e. q (ltb-true i 128 e))
+-- ---- what holds of any sixteen bytes
 
 -- a repaired word is sixteen bytes
 pub repair-long : (w : List ℕ) → length w ≡ 16 → length (repairOf w .word) ≡ 16
 unfolding repairOf
-repair-long w long = repaired-all (λ v. length v ≡ 16) w (checksOf w) (positionOf (checksOf w)) long (λ h. turn-long w (positionOf (checksOf w)) ∙ long)
+repair-long w long =
+    let i = positionOf (checksOf w) in
+    by-case (λ r. length (r .word) ≡ 16) w (checksOf w) i (λ e. long) (λ ne h. turn-long w i ∙ long) (λ ne h. long)
 
 pub repair-bytes : (w : List ℕ) → length w ≡ 16 → Bytes w → Bytes (repairOf w .word)
 unfolding repairOf
-repair-bytes w long b = repaired-all Bytes w (checksOf w) (positionOf (checksOf w)) b (λ h. turn-bytes w long (positionOf (checksOf w)) h b)
+repair-bytes w long b =
+    let i = positionOf (checksOf w) in
+    by-case (λ r. Bytes (r .word)) w (checksOf w) i (λ e. b) (λ ne h. turn-bytes w long i h b) (λ ne h. b)
 
 -- what is beyond repair is left as it is
-kept-by : (w v : List ℕ) (i : ℕ) (z b : Bool) → cond z (answer w Clean) (cond b (answer v (Turned i)) (answer w Beyond)) .found ≡ Beyond
-    → cond z (answer w Clean) (cond b (answer v (Turned i)) (answer w Beyond)) .word ≡ w
-kept-by w v i true b e = refl
-kept-by w v i false true e = cc
-kept-by w v i false false e = refl
-
 pub beyond-kept : (w : List ℕ) → repairOf w .found ≡ Beyond → repairOf w .word ≡ w
-unfolding repairOf repairAt
-beyond-kept w e = let i = positionOf (checksOf w) in kept-by w (turn w i) i (eqb (checksOf w) 0) (ltb i 128) e
+unfolding repairOf
+beyond-kept w =
+    by-case (λ r. r .found ≡ Beyond → r .word ≡ w) w (checksOf w) (positionOf (checksOf w)) (λ e t. refl) (λ ne h t. cc) (λ ne h t. refl)
+
+-- and anything else is a code word afterwards
+pub repaired-checks : (w : List ℕ) → length w ≡ 16 → (repairOf w .found ≡ Beyond → ⊥) → checksOf (repairOf w .word) ≡ 0
+unfolding repairOf
+repaired-checks w long =
+    let c = checksOf w in
+    let i = positionOf c in
+    by-case (λ r. (r .found ≡ Beyond → ⊥) → checksOf (r .word) ≡ 0) w c i (λ e t. e)
+    (λ ne h t. checks-turn w long i h ∙ ap (bitXor c) (column-position c h) ∙ xor-self c)
+    (λ ne h t. absurd (t refl))
 
 -- ---- what becomes of a code word
 

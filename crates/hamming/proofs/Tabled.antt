@@ -1,18 +1,18 @@
 -- The sums by bytes are the checks, and what lent tables give is the code's where they are the tables of `specs/Lent`. Assumes nothing.
-use Prim.Native.Nat.{ℕ, _+_, _*_, _/_, _%_, _^_, _<_}
-use mathlib.Core.Path.{_≡_, refl, sym, ap, ap₂, _∙_}
+use Prim.Native.Nat.{ℕ, _+_, _*_, _/_, _%_, _<_}
+use mathlib.Core.Path.{_≡_, sym, ap, ap₂, _∙_}
 use mathlib.Core.List.{List}
 use native.Mathlib.Nat.{mod-eq-of-lt}
 use native.Mathlib.Decide.{ℕ-discrete}
 use native.Mathlib.Omega.{arith}
-use lib.Bits.{bitXor, xor-zero-r}
+use lib.Bits.{xor-zero-r}
 use lib.ListN.{length, length-set, getD, set}
 use lib.Seq.{getD-set-same, getD-set-other}
 use Rattle.bits.specs.Bits.{tabulate, num, digit, bitAt, Bits, Bytes}
 use Rattle.bits.proofs.Lists.{is-table, getD-tabulate}
 use Rattle.bits.proofs.Numbers.{num-ext, num-front, num-back, num-digit, num-more, digit-lt}
 use Rattle.bits.proofs.Packing.{bitOf-lt, bitOf-at, num-bitOf}
-use Rattle.hamming.specs.Columns.{s, _and_, _or_, neg, s7, g, from, _to_, elementOrder, checkOrder, columns, columnOf, positionOf}
+use Rattle.hamming.specs.Columns.{columns, columnOf, positionOf}
 use Rattle.hamming.specs.Code.{sumTo, taken, checksOf, elementSum, tailSum, tailOf, joined, joinedWord, coded, wordOf}
 use Rattle.hamming.specs.Repair.{repairAt, repairOf}
 use Rattle.hamming.specs.Lent.{byteSum, byteEntry, byteTable, tailTable, positionTable, entryAt, sumBy, wordBy, repairBy}
@@ -53,7 +53,7 @@ by-checks t w e b =
 
 -- the 119 bits alone, with nine zeros
 pub checks-alone : (f : ℕ → ℕ) → Bits f → checksOf (joinedWord f 0) ≡ elementSum f
-unfolding tailSum sumTo taken digit columnOf columns elementOrder checkOrder _to_ from g s7 s _and_ _or_ neg
+unfolding tailSum sumTo taken digit columnOf columns
 checks-alone f b = checks-joined f 0 b ∙ xor-zero-r (elementSum f)
 
 -- so the code word is closed by what these add
@@ -91,7 +91,9 @@ module _ (e : List ℕ) (p : ℕ) (long : length e ≡ 16) (bytes : Bytes e) (sm
   unfolding digit
   shared-byte =
       let f = joined (bitAt e) p in
-      let top : getD e 14 0 / 2 ≡ num 7 f 112 = ap (λ (x : ℕ). x / 2) (sym (num-bitOf 8 e 14 (bytes 14))) ∙ num-front 7 1 (bitAt e) 112 (bitOf-lt 8 e) ∙ num-ext 7 (bitAt e) f 112 112 (λ j l. sym (joined-low (bitAt e) p (112 + j) (omega arith))) in
+      let seven : num 7 (bitAt e) 112 ≡ num 7 f 112 = num-ext 7 (bitAt e) f 112 112 (λ j l. sym (joined-low (bitAt e) p (112 + j) (omega arith))) in
+      let half : num 8 (bitAt e) 112 / 2 ≡ num 7 (bitAt e) 112 = num-front 7 1 (bitAt e) 112 (bitOf-lt 8 e) in
+      let top : getD e 14 0 / 2 ≡ num 7 f 112 = ap (λ (x : ℕ). x / 2) (sym (num-bitOf 8 e 14 (bytes 14))) ∙ half ∙ seven in
       let one : p / 256 ≡ p / 256 % 2 = omega arith in
       ap₂ (λ (x y : ℕ). x * 2 + y) top (one ∙ sym (joined-high (bitAt e) p 0)) ∙ sym (num-more 7 f 112)
 

@@ -1,32 +1,29 @@
 -- A turned bit: which bits a turn changes, and what it does to the checks. Assumes nothing.
 use Prim.Native.Nat.{ℕ, _+_, _*_, _/_, _%_, _^_, _<_}
-use mathlib.Core.Path.{_≡_, refl, sym, ap, ap₂, subst, _∙_}
+use mathlib.Core.Path.{_≡_, sym, ap, _∙_}
 use mathlib.Core.List.{List}
 use native.Mathlib.Nat.{zero-add, div-le-self, lt-of-le-of-lt}
 use native.Mathlib.Decide.{ℕ-discrete}
 use native.Mathlib.Omega.{arith}
 use lib.Bits.{bitXor, xor-lt}
-use lib.Dec.{eqb, lit<}
+use lib.Dec.{lit<}
 use lib.ListN.{length, length-set, getD, set}
 use lib.Seq.{getD-set-same, getD-set-other, set-set, set-getD}
 use Rattle.bits.specs.Bits.{digit, bitOf, bitAt, Bytes}
 use Rattle.bits.proofs.Common.{agree}
 use Rattle.bits.proofs.Packing.{bitOf-lt}
-use Rattle.bits.proofs.Tables.{below, each}
 use Rattle.bits.proofs.Xor.{xor-cancel, digit-xor}
 use Rattle.hamming.specs.Columns.{columnOf}
-use Rattle.hamming.specs.Code.{sumTo, taken, checksOf, turn}
+use Rattle.hamming.specs.Code.{checksOf, turn}
 use Rattle.hamming.proofs.Sums.{unit, unit-same, unit-other, unit-lt, taken-xor, sum-unit}
 
 -- the digits of the byte 128 / 2 ^ a: the only 1 stands at a. The test goes over the 64 pairs
 mark-digit : (a b : ℕ) → a < 8 → b < 8 → digit 8 (128 / 2 ^ a) b ≡ unit a b
 unfolding digit unit
 mark-digit a b h k =
-    let e : 8 * a + b < 64 = omega arith in
     let p : (8 * a + b) / 8 ≡ a = omega arith in
     let q : (8 * a + b) % 8 ≡ b = omega arith in
-    let t : digit 8 (128 / 2 ^ ((8 * a + b) / 8)) ((8 * a + b) % 8) ≡ unit ((8 * a + b) / 8) ((8 * a + b) % 8) = agree (λ i. digit 8 (128 / 2 ^ (i / 8)) (i % 8)) (λ i. unit (i / 8) (i % 8)) 64 tt (8 * a + b) e in
-    subst (λ (x : ℕ). digit 8 (128 / 2 ^ x) b ≡ unit x b) p (subst (λ (y : ℕ). digit 8 (128 / 2 ^ ((8 * a + b) / 8)) y ≡ unit ((8 * a + b) / 8) y) q t)
+    rw (p, q) at (agree (λ i. digit 8 (128 / 2 ^ (i / 8)) (i % 8)) (λ i. unit (i / 8) (i % 8)) 64 tt (8 * a + b) (omega arith))
 
 pub turn-long : (w : List ℕ) (i : ℕ) → length (turn w i) ≡ length w
 unfolding turn
@@ -68,7 +65,13 @@ module _ (w : List ℕ) (long : length w ≡ 16) (i : ℕ) (h : i < 128) where
   bit-at : (j : ℕ) → Dec (j / 8 ≡ i / 8) → bitAt (turn w i) j ≡ (bitAt w j + unit i j) % 2
   unfolding bitOf
   bit-at j (yes e) =
-      rw (e, turn-here, digit-xor 8 (getD w (i / 8) 0) (128 / 2 ^ (i % 8)) (j % 8), mark-digit (i % 8) (j % 8) (omega arith) (omega arith), same-byte j e (ℕ-discrete i j))
+      rw (
+        e,
+        turn-here,
+        digit-xor 8 (getD w (i / 8) 0) (128 / 2 ^ (i % 8)) (j % 8),
+        mark-digit (i % 8) (j % 8) (omega arith) (omega arith),
+        same-byte j e (ℕ-discrete i j),
+      )
   bit-at j (no ne) =
       rw (turn-there (j / 8) ne, unit-other i j (λ q. ne (ap (λ (x : ℕ). x / 8) (sym q)))) (omega (arith, bitOf-lt 8 w j))
 

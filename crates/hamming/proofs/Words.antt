@@ -1,24 +1,22 @@
 -- The code word of 119 bits: it is sixteen bytes that begin with them, its checks are zero, and it is the only such word. Assumes nothing.
-use Prim.Native.Nat.{ℕ, zero, suc, _+_, _-_, _*_, _/_, _%_, _^_, _<_, _≤_}
-use mathlib.Core.Bool.{cond}
+use Prim.Native.Nat.{ℕ, zero, suc, _+_, _-_, _*_, _/_, _<_}
 use mathlib.Core.Path.{_≡_, refl, sym, ap, ap₂, _∙_}
 use mathlib.Core.List.{List}
 use native.Mathlib.Nat.{zero-add, zero-div}
 use native.Mathlib.Omega.{arith}
 use borrow.Author.Tests.{lt-ltb, le-ltb}
-use lib.Bits.{bitXor, xor-self, xor-zero-r}
-use lib.Dec.{ltb, lit<}
-use lib.ListN.{length, length-set, getD, set, replicate, getD-replicate}
-use lib.Seq.{getD-set-same, getD-set-other}
-use Rattle.bits.specs.Bits.{tabulate, num, digit, bitOf, bitAt, pack, packs, Bits, Bytes}
+use lib.Bits.{bitXor, xor-self}
+use lib.Dec.{lit<}
+use lib.ListN.{length, getD, replicate, getD-replicate}
+use Rattle.bits.specs.Bits.{num, digit, bitOf, bitAt, pack, packs, Bits, Bytes}
 use Rattle.bits.proofs.Common.{by-bound, xor-none}
-use Rattle.bits.proofs.Lists.{is-table, length-tabulate, getD-tabulate, getD-past}
-use Rattle.bits.proofs.Numbers.{num-lt, num-ext, num-front, num-back, num-digit, num-is, digit-num, digit-lt}
-use Rattle.bits.proofs.Packing.{bitOf-lt, bitOf-packs, num-bitOf, length-packs, packs-bitOf, packs-ext}
+use Rattle.bits.proofs.Lists.{getD-tabulate, getD-past}
+use Rattle.bits.proofs.Numbers.{num-lt, digit-num, digit-lt}
+use Rattle.bits.proofs.Packing.{bitOf-lt, bitOf-packs, length-packs, packs-bitOf, packs-ext}
 use Rattle.hamming.specs.Columns.{columnOf}
-use Rattle.hamming.specs.Code.{sumTo, taken, checksOf, elementSum, tailSum, tailOf, joined, joinedWord, coded}
+use Rattle.hamming.specs.Code.{sumTo, taken, checksOf, elementSum, tailSum, tailOf, joined, joinedWord, coded, wordOf}
 use Rattle.hamming.proofs.Sums.{sum-same, sum-zero, sum-lt, sum-split, taken-same, taken-none, taken-lt}
-use Rattle.hamming.proofs.Matrix.{column-lt, tail-lt, tail-sum, tail-back}
+use Rattle.hamming.proofs.Matrix.{column-lt, tail-sum, tail-back}
 
 -- ---- 119 bits and nine
 
@@ -57,6 +55,11 @@ checks-joined f p b =
     (sum-same (taken 0 v) (taken 0 f) 119 (λ i h. taken-same 0 0 v f i i (joined-bit f p i b (omega arith) ∙ joined-low f p i h) refl))
     (sum-same (λ j. taken 0 v (119 + j)) (taken 119 (digit 9 p)) 9
     (λ j h. taken-same 0 119 v (digit 9 p) (119 + j) j (joined-bit f p (119 + j) b (omega arith) ∙ joined-high f p j) (omega arith)))
+
+-- the checks, term by term
+pub checks-sum : (w : List ℕ) → checksOf w ≡ sumTo (λ i. bitAt w i * columnOf i) 128
+unfolding checksOf taken
+checks-sum w = sum-same (taken 0 (bitAt w)) (λ i. bitAt w i * columnOf i) 128 (λ i h. ap (λ (k : ℕ). bitAt w i * columnOf k) (zero-add i))
 
 pub element-lt : (f : ℕ → ℕ) → Bits f → elementSum f < 512
 unfolding elementSum
@@ -136,7 +139,8 @@ module _ (w : List ℕ) (long : length w ≡ 16) (bytes : Bytes w) where
   unfolding coded
   coded-own e =
       let f = bitAt w in
-      let sums : elementSum f ≡ tailSum tail-bits = xor-none (elementSum f) (tailSum tail-bits) (sym (checks-joined f tail-bits (bitOf-lt 8 w)) ∙ ap checksOf (sym word-joined) ∙ e) in
+      let none : bitXor (elementSum f) (tailSum tail-bits) ≡ 0 = sym (checks-joined f tail-bits (bitOf-lt 8 w)) ∙ ap checksOf (sym word-joined) ∙ e in
+      let sums : elementSum f ≡ tailSum tail-bits = xor-none (elementSum f) (tailSum tail-bits) none in
       word-joined ∙ ap (joinedWord f) (sym (ap tailOf sums ∙ tail-back tail-bits tail-small (tail-sum-lt tail-bits)))
 
 -- a word of sixteen bytes whose checks are zero and whose first 119 bits are f is the code word of f
@@ -154,7 +158,15 @@ zero-byte zero k = lit< tt
 zero-byte (suc n) zero = lit< tt
 zero-byte (suc n) (suc k) = zero-byte n k
 
-pub coded-zero : coded (λ i. 0) ≡ replicate 16 0
+zero-checks : checksOf (replicate 16 0) ≡ 0
 unfolding checksOf
+zero-checks =
+    let v = bitAt (replicate 16 0) in sum-zero (taken 0 v) 128 (λ i h. taken-none 0 v i (zero-bit i h))
+
+pub coded-zero : coded (λ i. 0) ≡ replicate 16 0
 coded-zero =
-    sym (coded-only (replicate 16 0) (λ i. 0) refl (zero-byte 16) (sum-zero (taken 0 (bitAt (replicate 16 0))) 128 (λ i h. taken-none 0 (bitAt (replicate 16 0)) i (zero-bit i h))) (λ i h. zero-bit i (omega arith)))
+    sym (coded-only (replicate 16 0) (λ i. 0) refl (zero-byte 16) zero-checks (λ i h. zero-bit i (omega arith)))
+
+-- the element of zeros gives the word of zeros
+pub word-zero : wordOf (replicate 16 0) ≡ replicate 16 0
+word-zero = coded-ext (bitAt (replicate 16 0)) (λ i. 0) (λ i h. zero-bit i (omega arith)) ∙ coded-zero

@@ -1,50 +1,50 @@
 -- The parity-check matrix of 001 section 10.5: g(i), and the order in which H has its columns. A column is one number of nine binary
 -- digits, the row of s0 on top and the row of ones lowest. Assumes nothing: these are definitions.
 use Prim.Native.Nat.{ℕ, zero, suc, _+_, _-_, _*_, _/_, _%_, _^_}
-use mathlib.Core.Bool.{Bool, true, false, cond}
+use mathlib.Core.Bool.{cond}
 use mathlib.Core.List.{List, [], _∷_, _++_, map}
 use lib.Dec.{eqb}
 use lib.ListN.{getD}
 
 -- "i = 64 s6 + 32 s5 + .. + 2 s1 + s0"
-unfoldable pub s : ℕ → ℕ → ℕ
+abbrev pub s : ℕ → ℕ → ℕ
 s j i = i / 2 ^ j % 2
 
 -- the signs of the formula for s7, on bits
 infixl 30 _and_
 infixl 20 _or_
-unfoldable pub _and_ : ℕ → ℕ → ℕ
+abbrev pub _and_ : ℕ → ℕ → ℕ
 a and b = a * b
 
-unfoldable pub _or_ : ℕ → ℕ → ℕ
+abbrev pub _or_ : ℕ → ℕ → ℕ
 a or b = a + b - a * b
 
-unfoldable pub neg : ℕ → ℕ
+abbrev pub neg : ℕ → ℕ
 neg a = 1 - a
 
 -- "s7 = (s0 ∧ s2) ∨ (¬s0 ∧ ¬s1 ∧ ¬s2) ∨ (s0 ∧ s1 ∧ ¬s2)"
-unfoldable pub s7 : ℕ → ℕ
+abbrev pub s7 : ℕ → ℕ
 s7 i = (s 0 i and s 2 i) or (neg (s 0 i) and neg (s 1 i) and neg (s 2 i)) or (s 0 i and s 1 i and neg (s 2 i))
 
 -- g(i), read from the top: s0, s1, .., s6, s7, 1
-unfoldable pub g : ℕ → ℕ
+abbrev pub g : ℕ → ℕ
 g i = 256 * s 0 i + 128 * s 1 i + 64 * s 2 i + 32 * s 3 i + 16 * s 4 i + 8 * s 5 i + 4 * s 6 i + 2 * s7 i + 1
 
 -- n numbers from a on
-unfoldable pub from : ℕ → ℕ → List ℕ
+abbrev pub from : ℕ → ℕ → List ℕ
 from a zero = []
 from a (suc n) = a ∷ from (suc a) n
 
 -- "g(a):g(b)", the arguments a, a + 1, .., b
 infixl 20 _to_
-unfoldable pub _to_ : ℕ → ℕ → List ℕ
+abbrev pub _to_ : ℕ → ℕ → List ℕ
 a to b = from a (suc b - a)
 
 -- the arguments of g in the order of H: the 119 of the element, and the nine of the checks
-unfoldable pub elementOrder : List ℕ
+abbrev pub elementOrder : List ℕ
 elementOrder = (0 to 62) ++ (64 to 94) ++ (96 to 110) ++ (112 to 118) ++ (120 ∷ 122 ∷ 124 ∷ [])
 
-unfoldable pub checkOrder : List ℕ
+abbrev pub checkOrder : List ℕ
 checkOrder = (63 ∷ 95 ∷ 111 ∷ 119 ∷ 121 ∷ 123 ∷ []) ++ (125 to 127)
 
 -- H

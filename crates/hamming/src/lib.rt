@@ -11,10 +11,10 @@ ghost use Prim.Native.Nat.{_*_, _<_};
 ghost use lib.ListN.{getD};
 ghost use Rattle.bits.specs.Bits.{digit, bitAt};
 ghost use Rattle.bits.specs.Posts.{Widened};
-ghost use Rattle.hamming.specs.Columns.{columns, columnOf, positionOf};
+ghost use Rattle.hamming.specs.Columns.{columns, positionOf};
 ghost use Rattle.hamming.specs.Code.{checksOf, turn, tailOf, joinedWord, wordOf};
 ghost use Rattle.hamming.specs.Repair.{repairAt, repairOf, numberOf};
-ghost use Rattle.hamming.specs.Lent.{byteSum, byteEntry, byteTable, tailTable, positionTable, sumBy, wordBy, repairBy};
+ghost use Rattle.hamming.specs.Lent.{byteSum, byteTable, tailTable, positionTable, sumBy, wordBy, repairBy};
 
 // What repair found: nothing, the bit that it turned, or more than it can repair.
 pub enum Found {

@@ -4,7 +4,6 @@ use mathlib.Core.Path.{_≡_, sym, ap, ap₂, _∙_}
 use mathlib.Core.List.{List, []}
 use native.Mathlib.Omega.{arith}
 use lib.ListN.{length, getD}
-use Rattle.bits.specs.Bits.{tabulate}
 use Rattle.bits.proofs.Lists.{is-table, getD-tabulate}
 use Rattle.symbols.specs.Group.{symbolAt, laidByte, laidGroup, takenByte, takenWord, takenGroup}
 

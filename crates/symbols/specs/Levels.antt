@@ -1,5 +1,5 @@
 -- DP-16QAM symbols, 001 section 11 and Table 12: byte k of a word is symbol k. Assumes nothing: these are definitions.
-use Prim.Native.Nat.{ℕ, zero, suc, _+_, _*_, _/_, _%_}
+use Prim.Native.Nat.{ℕ, zero, suc, _+_, _*_}
 use mathlib.Core.Bool.{cond}
 use lib.IntN.{ℤ, pos, negsuc}
 use lib.Signed.{ltZ}

@@ -1,21 +1,17 @@
+-- `hamming::byte_sum` meets its contract: the invariant adds up the columns of the bits that are in. Assumes nothing.
 use Prim.Native.Nat.{ℕ, _+_, _-_, _*_}
 use mathlib.Core.List.{List}
+use mathlib.Core.Path.{ap, ap₂, _∙_}
+use borrow.Author.Needs.{needs}
 use lib.ListN.{getD}
 use Rattle.bits.proofs.Numbers.{digit-lt}
-use mathlib.Core.Path.{_≡_, refl, sym, ap, ap₂, _∙_}
-use native.Mathlib.Omega.{arith}
-use borrow.Author.Needs.{needs}
 use Rattle.bits.specs.Bits.{digit}
-use Rattle.hamming.specs.Columns.{columns, columnOf}
+use Rattle.hamming.specs.Columns.{columnOf}
 use Rattle.hamming.specs.Code.{taken}
-use Rattle.hamming.specs.Lent.{byteSum, byteEntry, entryAt, sumBy}
+use Rattle.hamming.specs.Lent.{byteSum}
 use Rattle.hamming.proofs.Sums.{Summed, summed-none, summed-more, summed-all}
 use Rattle.hamming.proofs.byte_sum.Statement.{statement}
 use Rattle.hamming.proofs.byte_sum.Tie as tie
-use Rattle.hamming.proofs.byte_sum.Reads as reads
-use Rattle.hamming.proofs.byte_sum.Lts as lts
-use Rattle.hamming.proofs.digit_of.Reads as digit-of-reads
-use Rattle.hamming.proofs.times.Reads as times-reads
 
 abbrev Inv-loop : tie.InvT-loop
 Inv-loop t k x sum₀ j₀ sum j = Summed (taken (8 * k) (digit 8 x)) 8 j sum

@@ -1,20 +1,11 @@
+-- `hamming::byte_table` meets its contract: the loop fills the table from the front. Assumes nothing.
+use Prim.Native.Nat.{_-_}
+use native.Mathlib.Omega.{arith}
 use Rattle.bits.proofs.Lists.{Filled}
 use Rattle.bits.proofs.LoopLaws.{loops}
-use Prim.Native.Nat.{_+_, _-_, _*_}
-use mathlib.Core.Path.{_≡_, refl, sym, ap, _∙_}
-use native.Mathlib.Omega.{arith}
-use borrow.Author.Needs.{needs}
-use Rattle.bits.specs.Bits.{digit}
-use Rattle.hamming.specs.Columns.{columns, columnOf}
-use Rattle.hamming.specs.Code.{taken}
-use Rattle.hamming.specs.Lent.{byteSum, byteEntry, entryAt, sumBy}
-use Rattle.hamming.proofs.Sums.{Summed, summed-none, summed-more, summed-all}
+use Rattle.hamming.specs.Lent.{byteEntry}
 use Rattle.hamming.proofs.byte_table.Statement.{statement}
 use Rattle.hamming.proofs.byte_table.Tie as tie
-use Rattle.hamming.proofs.byte_table.Reads as reads
-use Rattle.hamming.proofs.byte_table.Lts as lts
-use Rattle.hamming.proofs.byte_sum.Reads as byte-sum-reads
-use Rattle.hamming.proofs.column_table.Reads as column-table-reads
 
 abbrev Inv-loop : tie.InvT-loop
 Inv-loop c t₀ e₀ t e = Filled e byteEntry t₀ t

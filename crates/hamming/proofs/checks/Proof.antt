@@ -1,19 +1,12 @@
-use Rattle.hamming.proofs.Tabled.{byteOfSum, checks-bytes}
-use Prim.Native.Nat.{_+_, _-_, _*_}
-use mathlib.Core.Path.{_≡_, refl, sym, ap, _∙_}
-use native.Mathlib.Omega.{arith}
+-- `hamming::checks` meets its contract: the sum over the bytes is the sum over the bits (`checks-bytes`). Assumes nothing.
+use Prim.Native.Nat.{_-_}
+use mathlib.Core.Path.{_∙_}
 use borrow.Author.Needs.{needs}
-use Rattle.bits.specs.Bits.{digit}
-use Rattle.hamming.specs.Columns.{columns, columnOf}
 use Rattle.hamming.specs.Code.{taken}
-use Rattle.hamming.specs.Lent.{byteSum, byteEntry, entryAt, sumBy}
+use Rattle.hamming.proofs.Tabled.{byteOfSum, checks-bytes}
 use Rattle.hamming.proofs.Sums.{Summed, summed-none, summed-more, summed-all}
 use Rattle.hamming.proofs.checks.Statement.{statement}
 use Rattle.hamming.proofs.checks.Tie as tie
-use Rattle.hamming.proofs.checks.Reads as reads
-use Rattle.hamming.proofs.checks.Lts as lts
-use Rattle.hamming.proofs.byte_sum.Reads as byte-sum-reads
-use Rattle.hamming.proofs.column_table.Reads as column-table-reads
 
 abbrev Inv-loop : tie.InvT-loop
 Inv-loop w t sum₀ k₀ sum k = Summed (byteOfSum w) 16 k sum

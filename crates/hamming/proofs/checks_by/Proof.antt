@@ -1,17 +1,11 @@
-use Prim.Native.Nat.{_+_, _-_, _*_}
-use mathlib.Core.Path.{_≡_, refl, sym, ap, _∙_}
-use native.Mathlib.Omega.{arith}
+-- `hamming::checks_by` meets its contract: the invariant adds up the entries of the bytes that are in. Assumes nothing.
+use Prim.Native.Nat.{_-_}
 use borrow.Author.Needs.{needs}
-use Rattle.bits.specs.Bits.{digit}
-use Rattle.hamming.specs.Columns.{columns, columnOf}
 use Rattle.hamming.specs.Code.{taken}
-use Rattle.hamming.specs.Lent.{byteSum, byteEntry, entryAt, sumBy}
+use Rattle.hamming.specs.Lent.{entryAt, sumBy}
 use Rattle.hamming.proofs.Sums.{Summed, summed-none, summed-more, summed-all}
 use Rattle.hamming.proofs.checks_by.Statement.{statement}
 use Rattle.hamming.proofs.checks_by.Tie as tie
-use Rattle.hamming.proofs.checks_by.Reads as reads
-use Rattle.hamming.proofs.checks_by.Lts as lts
-use Rattle.hamming.proofs.wide.Reads as wide-reads
 
 abbrev Inv-loop : tie.InvT-loop
 Inv-loop t w sum₀ k₀ sum k = Summed (entryAt t w) 16 k sum

@@ -1,9 +1,8 @@
-use Rattle.bits.specs.Bits.{digit}
+-- `hamming::digit_of` meets its contract: a shift is a division. Assumes nothing.
 use borrow.Author.Needs.{needs}
+use Rattle.bits.specs.Bits.{digit}
 use Rattle.hamming.proofs.digit_of.Statement.{statement}
 use Rattle.hamming.proofs.digit_of.Tie as tie
-use Rattle.hamming.proofs.digit_of.Reads as reads
-use Rattle.hamming.proofs.digit_of.Lts as lts
 
 sub-result : tie.Need-sub-result
 sub-result c = search needs

@@ -1,38 +1,28 @@
-use Rattle.bits.proofs.Packing.{bitOf-lt}
-use Prim.Native.Nat.{ℕ}
+-- `hamming::encode` meets its contract: the check bits are those that add what the 119 bits add (`word-closed`). Assumes nothing.
 use mathlib.Core.Path.{ap, _∙_}
+use borrow.Author.Needs.{needs}
+use Rattle.bits.proofs.Packing.{bitOf-lt}
 use Rattle.bits.specs.Bits.{bitAt}
 use Rattle.hamming.specs.Code.{checksOf, tailOf, joinedWord}
 use Rattle.hamming.proofs.Matrix.{tail-lt}
 use Rattle.hamming.proofs.Words.{checks-lt}
 use Rattle.hamming.proofs.Tabled.{word-closed}
-use borrow.Author.Needs.{needs}
 use Rattle.hamming.proofs.encode.Statement.{statement}
 use Rattle.hamming.proofs.encode.Tie as tie
-use Rattle.hamming.proofs.encode.Reads as reads
-use Rattle.hamming.proofs.encode.Lts as lts
-use Rattle.hamming.proofs.checks.Reads as checks-reads
-use Rattle.hamming.proofs.join.Reads as join-reads
-use Rattle.hamming.proofs.tail.Reads as tail-reads
 
--- src/lib.rt:161:25
 join-requires : tie.Need-join-requires
 join-requires c κs = search needs
 
--- src/lib.rt:161:18
 checks-requires : tie.Need-checks-requires
 checks-requires c κs = search needs
 
--- src/lib.rt:161:13
 tail-requires : tie.Need-tail-requires
 tail-requires c κs = rw (c .checks .ensures) (checks-lt (c .before .join .result))
 
--- src/lib.rt:161:5
 join-requires-2 : tie.Need-join-requires-2
 join-requires-2 c κs =
     let k = c .before in rw (c .tail .ensures) (tail-lt (k .checks .result) (rw (k .checks .ensures) (checks-lt (k .before .join .result))))
 
--- src/lib.rt:158:1
 returns : tie.Need-returns
 returns c =
     let e = c .before .before .before .before .args .e in

@@ -1,41 +1,30 @@
+-- `hamming::encode_by` meets its contract: what the callees say, put together. Assumes nothing.
 use Prim.Native.Nat.{ℕ, _%_}
 use mathlib.Core.Path.{ap, _∙_}
-use lib.ListN.{getD}
 use denote.Ref.{now}
+use borrow.Author.Needs.{needs}
+use lib.ListN.{getD}
 use Rattle.bits.specs.Bits.{bitAt}
 use Rattle.hamming.specs.Code.{joinedWord}
 use Rattle.hamming.specs.Lent.{sumBy, wordBy}
-use borrow.Author.Needs.{needs}
 use Rattle.hamming.proofs.encode_by.Statement.{statement}
 use Rattle.hamming.proofs.encode_by.Tie as tie
-use Rattle.hamming.proofs.encode_by.Reads as reads
-use Rattle.hamming.proofs.encode_by.Lts as lts
-use Rattle.hamming.proofs.checks_by.Reads as checks-by-reads
-use Rattle.hamming.proofs.entry_at.Reads as entry-at-reads
-use Rattle.hamming.proofs.index.Reads as index-reads
-use Rattle.hamming.proofs.join.Reads as join-reads
 
--- src/lib.rt:176:48
 join-requires : tie.Need-join-requires
 join-requires c κs = search needs
 
--- src/lib.rt:176:35
 checks-by-requires : tie.Need-checks-by-requires
 checks-by-requires c κs = search needs
 
--- src/lib.rt:176:29
 index-requires : tie.Need-index-requires
 index-requires c κs = search needs
 
--- src/lib.rt:176:13
 entry-at-requires : tie.Need-entry-at-requires
 entry-at-requires c κs = search needs
 
--- src/lib.rt:176:5
 join-requires-2 : tie.Need-join-requires-2
 join-requires-2 c κs = search needs
 
--- src/lib.rt:173:1
 returns : tie.Need-returns
 unfolding wordBy
 returns c =

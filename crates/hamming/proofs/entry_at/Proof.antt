@@ -1,25 +1,20 @@
+-- `hamming::entry_at` meets its contract: past the end there is the default. Assumes nothing.
 use mathlib.Core.Path.{sym}
-use lib.ListN.{List·getD-eq-default}
 use denote.Ref.{now}
 use borrow.Author.Needs.{needs}
+use lib.ListN.{List·getD-eq-default}
 use Rattle.hamming.proofs.entry_at.Statement.{statement}
 use Rattle.hamming.proofs.entry_at.Tie as tie
-use Rattle.hamming.proofs.entry_at.Reads as reads
-use Rattle.hamming.proofs.entry_at.Lts as lts
 
--- src/lib.rt:131:22
 mul-result : tie.Need-mul-result
 mul-result c = search needs
 
--- src/lib.rt:131:22
 shared-slice-read-result : tie.Need-shared-slice-read-result
 shared-slice-read-result c = search needs
 
--- src/lib.rt:128:1
 returns : tie.Need-returns
 returns c = search needs
 
--- src/lib.rt:128:1
 returns-2 : tie.Need-returns-2
 returns-2 c = sym (List·getD-eq-default (now (c .before .args .t)) 0 (c .if1 .left))
 

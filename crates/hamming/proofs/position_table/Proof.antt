@@ -1,14 +1,12 @@
+-- `hamming::position_table` meets its contract: the rule of the whole table, computed by antt once. Assumes nothing.
 use mathlib.Core.Path.{refl}
-use Rattle.bits.specs.Bits.{tabulate, digit}
-use Rattle.hamming.specs.Columns.{s, _and_, _or_, neg, s7, g, from, _to_, elementOrder, checkOrder, columns, columnOf, placeIn, positionOf}
-use Rattle.hamming.specs.Code.{sumTo, taken, tailSum, tailSums, tailOf}
+use Rattle.bits.specs.Bits.{tabulate}
+use Rattle.hamming.specs.Columns.{columns, placeIn, positionOf}
 use Rattle.hamming.proofs.position_table.Statement.{statement}
 use Rattle.hamming.proofs.position_table.Tie as tie
-use Rattle.hamming.proofs.position_table.Reads as reads
-use Rattle.hamming.proofs.position_table.Lts as lts
 
 returns : tie.Need-returns
-unfolding tabulate positionOf placeIn columns elementOrder checkOrder _to_ from g s7 s _and_ _or_ neg
+unfolding tabulate positionOf placeIn columns
 returns c = refl
 
 pub position-table-spec : {M : Type 1} → statement M

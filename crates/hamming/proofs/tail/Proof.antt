@@ -1,30 +1,22 @@
+-- `hamming::tail` meets its contract: an entry of the table (`entry-is`). Assumes nothing.
+use borrow.Author.Needs.{needs}
 use Rattle.hamming.specs.Code.{tailOf}
 use Rattle.hamming.proofs.Tabled.{entry-is}
-use borrow.Author.Needs.{needs}
 use Rattle.hamming.proofs.tail.Statement.{statement}
 use Rattle.hamming.proofs.tail.Tie as tie
-use Rattle.hamming.proofs.tail.Reads as reads
-use Rattle.hamming.proofs.tail.Lts as lts
-use Rattle.hamming.proofs.index.Reads as index-reads
-use Rattle.hamming.proofs.tail_table.Reads as tail-table-reads
 
--- src/lib.rt:154:13
 tail-table-requires : tie.Need-tail-table-requires
 tail-table-requires c κs = search needs
 
--- src/lib.rt:155:7
 index-requires : tie.Need-index-requires
 index-requires c κs = search needs
 
--- src/lib.rt:155:5
 mul-result : tie.Need-mul-result
 mul-result c = search needs
 
--- src/lib.rt:155:5
 array-read-result : tie.Need-array-read-result
 array-read-result c = search needs
 
--- src/lib.rt:150:1
 returns : tie.Need-returns
 returns c =
     let a = c .before .before in

@@ -1,10 +1,9 @@
+-- `hamming::times` meets its contract: the bit is 1 or 0. Assumes nothing.
 use mathlib.Core.Path.{_≡_, sym}
 use native.Mathlib.Nat.{zero-mul, one-mul}
 use native.Mathlib.Omega.{arith}
 use Rattle.hamming.proofs.times.Statement.{statement}
 use Rattle.hamming.proofs.times.Tie as tie
-use Rattle.hamming.proofs.times.Reads as reads
-use Rattle.hamming.proofs.times.Lts as lts
 
 returns : tie.Need-returns
 returns c = rw (c .if1 .taken) (sym (one-mul (c .before .args .c)))

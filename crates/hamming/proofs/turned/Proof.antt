@@ -1,10 +1,9 @@
+-- `hamming::turned` meets its contract: it is the definition. Assumes nothing.
 use mathlib.Core.Path.{refl}
-use Rattle.hamming.specs.Code.{turn}
 use borrow.Author.Needs.{needs}
+use Rattle.hamming.specs.Code.{turn}
 use Rattle.hamming.proofs.turned.Statement.{statement}
 use Rattle.hamming.proofs.turned.Tie as tie
-use Rattle.hamming.proofs.turned.Reads as reads
-use Rattle.hamming.proofs.turned.Lts as lts
 
 array-read-v : tie.Need-array-read-v
 array-read-v c = search needs

@@ -1,11 +1,9 @@
+-- `symbols::byte_of` meets its contract: four pairs fit a byte (`pair-small`), and make it (`byte-is`). Assumes nothing.
 use native.Mathlib.Omega.{arith}
-use Rattle.symbols.proofs.Amplitudes.{pair-small, byte-is}
 use borrow.Author.Needs.{needs}
+use Rattle.symbols.proofs.Amplitudes.{pair-small, byte-is}
 use Rattle.symbols.proofs.byte_of.Statement.{statement}
 use Rattle.symbols.proofs.byte_of.Tie as tie
-use Rattle.symbols.proofs.byte_of.Reads as reads
-use Rattle.symbols.proofs.byte_of.Lts as lts
-use Rattle.symbols.proofs.pair.Reads as pair-reads
 
 pair-requires : tie.Need-pair-requires
 pair-requires c κs = search needs

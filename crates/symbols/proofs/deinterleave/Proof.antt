@@ -1,13 +1,10 @@
+-- `symbols::deinterleave` meets its contract: the loop fills the group from the front. Assumes nothing.
 use Prim.Native.Nat.{_-_}
-use native.Mathlib.Omega.{arith}
 use Rattle.bits.proofs.Lists.{Filled}
 use Rattle.bits.proofs.LoopLaws.{loops}
 use Rattle.symbols.specs.Group.{takenWord}
 use Rattle.symbols.proofs.deinterleave.Statement.{statement}
 use Rattle.symbols.proofs.deinterleave.Tie as tie
-use Rattle.symbols.proofs.deinterleave.Reads as reads
-use Rattle.symbols.proofs.deinterleave.Lts as lts
-use Rattle.symbols.proofs.taken_word.Reads as taken-word-reads
 
 abbrev Inv-loop : tie.InvT-loop
 Inv-loop s words₀ w₀ words w = Filled w (takenWord s) words₀ words

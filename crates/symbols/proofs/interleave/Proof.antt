@@ -1,13 +1,10 @@
+-- `symbols::interleave` meets its contract: the loop fills the group from the front. Assumes nothing.
 use Prim.Native.Nat.{_-_}
-use mathlib.Core.Path.{refl}
-use native.Mathlib.Omega.{arith}
-use Rattle.bits.proofs.Lists.{Filled, filled-more}
+use Rattle.bits.proofs.Lists.{Filled}
 use Rattle.bits.proofs.LoopLaws.{loops}
-use Rattle.symbols.specs.Group.{symbolAt, laidByte, takenByte, takenWord}
+use Rattle.symbols.specs.Group.{symbolAt, laidByte, takenByte}
 use Rattle.symbols.proofs.interleave.Statement.{statement}
 use Rattle.symbols.proofs.interleave.Tie as tie
-use Rattle.symbols.proofs.interleave.Reads as reads
-use Rattle.symbols.proofs.interleave.Lts as lts
 
 abbrev Inv-loop : tie.InvT-loop
 Inv-loop words out₀ b₀ out b = Filled b (laidByte words) out₀ out

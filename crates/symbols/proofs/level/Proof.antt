@@ -1,11 +1,10 @@
+-- `symbols::level` meets its contract: each return is a row of the rule. Assumes nothing.
 use Prim.Native.Nat.{_/_}
 use mathlib.Core.Path.{sym, ap₂}
 use Rattle.symbols.specs.Levels.{levelOf}
 use Rattle.symbols.proofs.Amplitudes.{odd}
 use Rattle.symbols.proofs.level.Statement.{statement}
 use Rattle.symbols.proofs.level.Tie as tie
-use Rattle.symbols.proofs.level.Reads as reads
-use Rattle.symbols.proofs.level.Lts as lts
 
 returns : tie.Need-returns
 unfolding levelOf

@@ -1,12 +1,10 @@
+-- `symbols::pair` meets its contract: each return is a case of the rule. Assumes nothing.
 use mathlib.Core.Bool.{true, false}
-use mathlib.Core.Path.{_≡_}
 use lib.IntN.{pos, negsuc}
 use Rattle.symbols.specs.Levels.{pairOf}
 use Rattle.symbols.proofs.Amplitudes.{test-of}
 use Rattle.symbols.proofs.pair.Statement.{statement}
 use Rattle.symbols.proofs.pair.Tie as tie
-use Rattle.symbols.proofs.pair.Reads as reads
-use Rattle.symbols.proofs.pair.Lts as lts
 
 returns : tie.Need-returns
 unfolding pairOf

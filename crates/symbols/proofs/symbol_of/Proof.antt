@@ -1,10 +1,8 @@
-use Rattle.symbols.proofs.Amplitudes.{symbol-is}
+-- `symbols::symbol_of` meets its contract: four levels make the symbol (`symbol-is`). Assumes nothing.
 use borrow.Author.Needs.{needs}
+use Rattle.symbols.proofs.Amplitudes.{symbol-is}
 use Rattle.symbols.proofs.symbol_of.Statement.{statement}
 use Rattle.symbols.proofs.symbol_of.Tie as tie
-use Rattle.symbols.proofs.symbol_of.Reads as reads
-use Rattle.symbols.proofs.symbol_of.Lts as lts
-use Rattle.symbols.proofs.level.Reads as level-reads
 
 level-requires : tie.Need-level-requires
 level-requires c κs = search needs

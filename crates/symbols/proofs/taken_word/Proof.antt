@@ -1,13 +1,10 @@
+-- `symbols::taken_word` meets its contract: the loop fills the word from the front. Assumes nothing.
 use Prim.Native.Nat.{_-_}
-use mathlib.Core.Path.{refl}
-use native.Mathlib.Omega.{arith}
-use Rattle.bits.proofs.Lists.{Filled, filled-more}
+use Rattle.bits.proofs.Lists.{Filled}
 use Rattle.bits.proofs.LoopLaws.{loops}
 use Rattle.symbols.specs.Group.{symbolAt, laidByte, takenByte, takenWord}
 use Rattle.symbols.proofs.taken_word.Statement.{statement}
 use Rattle.symbols.proofs.taken_word.Tie as tie
-use Rattle.symbols.proofs.taken_word.Reads as reads
-use Rattle.symbols.proofs.taken_word.Lts as lts
 
 abbrev Inv-loop : tie.InvT-loop
 Inv-loop s w out₀ k₀ out k = Filled k (takenByte s w) out₀ out

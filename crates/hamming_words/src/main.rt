@@ -1,0 +1,168 @@
+// Writes the code words of four elements, the rows of 001 Table 12, and for several words how many single flips repair puts right and how
+// many double flips it finds beyond repair.
+use hamming::Found;
+use hamming::Repaired;
+use libc::STDOUT_FILENO;
+ghost use Prim.Native.Nat.{_<_};
+
+// The element whose first n bytes are x and whose others are y.
+fn element(x: u8, y: u8, n: usize) -> [u8; 16] {
+    let mut e = [y; 16];
+    for k in 0..16 {
+        if k < n {
+            e[k] = x;
+        }
+    }
+    e
+}
+
+// The words that are tried, each of an element.
+fn word(i: usize) -> [u8; 16] {
+    match i {
+        0 => hamming::encode(element(128, 0, 1)),
+        1 => hamming::encode(element(32, 0, 1)),
+        2 => hamming::encode(element(8, 0, 1)),
+        3 => hamming::encode(element(255, 255, 0)),
+        4 => hamming::encode(element(0, 0, 0)),
+        5 => hamming::encode(element(165, 60, 7)),
+        _ => hamming::encode(element(1, 254, 11)),
+    }
+}
+
+fn wide(x: u8) -> u64 {
+    x as u64
+}
+
+fn print_word(w: [u8; 16]) {
+    for k in 0..16 {
+        io::print_hex(STDOUT_FILENO, wide(w[k]), 2);
+    }
+    io::write_all(STDOUT_FILENO, b"\n");
+}
+
+fn print_level(v: i8) {
+    if v == -3 {
+        io::write_all(STDOUT_FILENO, b" -3");
+    } else if v == -1 {
+        io::write_all(STDOUT_FILENO, b" -1");
+    } else if v == 1 {
+        io::write_all(STDOUT_FILENO, b" +1");
+    } else if v == 3 {
+        io::write_all(STDOUT_FILENO, b" +3");
+    } else {
+        io::write_all(STDOUT_FILENO, b" ?");
+    }
+}
+
+// A row of Table 12: four bits, and the levels that they have in the X and in the Y polarization.
+fn print_row(n: u8) {
+    let bits = [48 + n / 8 % 2, 48 + n / 4 % 2, 48 + n / 2 % 2, 48 + n % 2];
+    io::write_all(STDOUT_FILENO, &bits);
+    let s = symbols::symbol_of(n % 16 * 17);
+    print_level(s.xi);
+    print_level(s.xq);
+    print_level(s.yi);
+    print_level(s.yq);
+    io::write_all(STDOUT_FILENO, b"\n");
+}
+
+// The word with bit i turned.
+fn flip(w: [u8; 16], i: usize) -> [u8; 16] {
+    let mut v = w;
+    let k = i % 128;
+    v[k / 8] = v[k / 8] ^ (128 >> (k % 8));
+    v
+}
+
+// 1 where the repair gave w back and named the bit i.
+fn put_right(r: Repaired, w: [u8; 16], i: usize) -> u64
+    ensures { λ r. ⌜ r < 2 ⌝ }
+{
+    let f = r.found;
+    let v = r.word;
+    match f {
+        Found::Turned(k) => {
+            if wide(k) == i as u64 && check::same(&v, &w) {
+                1
+            } else {
+                0
+            }
+        }
+        Found::Clean => 0,
+        Found::Beyond => 0,
+    }
+}
+
+// 1 where the repair left v as it was, beyond repair.
+fn left_alone(r: Repaired, v: [u8; 16]) -> u64
+    ensures { λ r. ⌜ r < 2 ⌝ }
+{
+    let f = r.found;
+    let u = r.word;
+    match f {
+        Found::Beyond => { if check::same(&u, &v) { 1 } else { 0 } }
+        Found::Clean => 0,
+        Found::Turned(_) => 0,
+    }
+}
+
+// How many of the 128 single flips are put right.
+fn single_flips(t: &[u16; 4096], positions: &[u8; 512], w: [u8; 16]) -> u64 {
+    let mut n: u64 = 0;
+    for i in 0..128 {
+        n = n + put_right(hamming::repair_by(t, positions, flip(w, i)), w, i);
+    }
+    n
+}
+
+// 1 where p is a pair of different bits, the lower first, and the word with both turned is beyond repair.
+fn pair_beyond(t: &[u16; 4096], positions: &[u8; 512], w: [u8; 16], p: usize) -> u64
+    ensures { λ r. ⌜ r < 2 ⌝ }
+{
+    if p / 128 < p % 128 {
+        let v = flip(flip(w, p / 128), p % 128);
+        left_alone(hamming::repair_by(t, positions, v), v)
+    } else {
+        0
+    }
+}
+
+// How many of the 8,128 double flips are beyond repair.
+fn double_flips(t: &[u16; 4096], positions: &[u8; 512], w: [u8; 16]) -> u64 {
+    let mut n: u64 = 0;
+    for p in 0..16384 {
+        n = n + pair_beyond(t, positions, w, p);
+    }
+    n
+}
+
+fn print_flips(t: &[u16; 4096], positions: &[u8; 512], w: [u8; 16]) {
+    io::write_all(STDOUT_FILENO, b"repaired ");
+    io::print_decimal(STDOUT_FILENO, single_flips(t, positions, w));
+    io::write_all(STDOUT_FILENO, b" of 128, beyond repair ");
+    io::print_decimal(STDOUT_FILENO, double_flips(t, positions, w));
+    io::write_all(STDOUT_FILENO, b" of 8128: ");
+    print_word(w);
+}
+
+fn print_words() {
+    for i in 0..4 {
+        print_word(word(i));
+    }
+}
+
+fn print_rows() {
+    for n in 0..16 {
+        print_row(n);
+    }
+}
+
+fn main() {
+    print_words();
+    print_rows();
+    let t = hamming::byte_table();
+    let positions = hamming::position_table();
+    for i in 0..7 {
+        print_flips(&t, &positions, word(i));
+    }
+}
