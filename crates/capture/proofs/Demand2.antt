@@ -1,0 +1,223 @@
+-- DEMAND 2: one to eight super frames, coded and flushed, read back to every client and parity bit even with one flipped bit in each word,
+-- and the count of such words is exact. Assumes nothing.
+use Prim.Native.Nat.{ℕ, _+_, _-_, _*_, _/_, _%_, _^_, _≤_, _<_}
+use mathlib.Core.Bool.{Bool, true, false, cond, not, _&&_, and-false}
+use mathlib.Core.Path.{_≡_, refl, sym, ap, ap₂, _∙_}
+use mathlib.Core.List.{List, [], _∷_}
+use native.Mathlib.Omega.{arith}
+use borrow.Author.Tests.{ltb-true, eq-eqb, ne-eqb}
+use lib.Dec.{ltb, eqb}
+use lib.ListN.{length, replicate}
+use Rattle.bits.specs.Bits.{num, digit, Bits, Bytes}
+use Rattle.bits.specs.Loops.{count}
+use Rattle.bits.proofs.Numbers.{num-is, num-zero}
+use Rattle.bits.proofs.Counting.{count-ext}
+use Rattle.answer.specs.Numbers.{outsideSet, wrongLength, beyondRepair}
+use Rattle.answer.specs.Rows.{Row, done, answerOf, whole, buffers}
+use Rattle.answer.specs.declared.Answer.{Answer}
+use Rattle.answer.proofs.Table.{row-none, row-buffers, inTurn}
+use Rattle.answer.proofs.Meets.{written-done}
+use Rattle.crc.specs.Crc.{crcOf}
+use Rattle.crc.proofs.Changes.{crc-ext, crc-lt}
+use Rattle.hamming.specs.Code.{checksOf, turn, coded}
+use Rattle.hamming.specs.Repair.{repairOf, numberOf}
+use Rattle.hamming.specs.declared.Repaired.{Repaired}
+use Rattle.hamming.proofs.Words.{coded-long, coded-checks}
+use Rattle.hamming.proofs.Turning.{turn-long}
+use Rattle.hamming.proofs.Repairs.{none-kept, one-seen, one-repaired}
+use Rattle.line.specs.Sizes.{infoBits, crcBits, mbasBits, mbasFrom, parityFrom, parityBits, fecBits, fecBlocks, padFrom, padBits, infoLength, parityLength, captureLength, words}
+use Rattle.line.specs.Captures.{superAllowed, wrong}
+use Rattle.line.specs.Fec.{mbasAllowed, mbasOf, infoBit, blockCrc, fecBit}
+use Rattle.line.specs.Frames.{superOf, elementOf, infoOf, parityOf}
+use Rattle.line.specs.Slots.{holds, slotBit}
+use Rattle.line.specs.Words.{laid, wordIn, wordsOf, superIn, fecIn}
+use Rattle.line.proofs.FecLaws.{mbas-lt, info-bits, fec-info, fec-crc, fec-mbas, fec-parity, fec-bits, info-back, parity-back}
+use Rattle.line.proofs.FrameLaws.{super-pad}
+use Rattle.line.proofs.WordLaws.{length-laid, word-laid}
+use Rattle.coder.specs.Code.{captureOf}
+use Rattle.coder.proofs.Coding.{word-filler}
+use Rattle.reader.specs.Read.{repaired, allZero, isBeyond, isFilled, mbasDiffers, crcDiffers, padDiffers, isSeen, readRows, readAnswer, readLeaves}
+use Rattle.capture.specs.Damage.{Input, Choice, chosen, hurt, damaged, howMany}
+use Rattle.capture.proofs.ReadLaws.{words-long, held-bits, super-read, fec-read}
+
+-- ---- a code word with at most one bit turned
+
+pub record Hurt (v : List ℕ) (p : ℕ) : Type 0 where
+  pub long : length (hurt v p) ≡ 16
+  pub back : repairOf (hurt v p) .word ≡ v
+  pub found : numberOf (repairOf (hurt v p) .found) ≡ 0
+  pub seen : not (eqb (checksOf (hurt v p)) 0) ≡ ltb p 128
+
+hurt-by : (v : List ℕ) (p : ℕ) (b : Bool) → ltb p 128 ≡ b → length v ≡ 16 → checksOf v ≡ 0
+    → (length (cond b (turn v p) v) ≡ 16) × (repairOf (cond b (turn v p) v) .word ≡ v) × (numberOf (repairOf (cond b (turn v p) v) .found) ≡ 0) × (not (eqb (checksOf (cond b (turn v p) v)) 0) ≡ b)
+hurt-by v p true e long clean =
+    let h : p < 128 = ltb-true p 128 e in
+    let r = one-repaired v long clean p h in
+    (turn-long v p ∙ long, ap (λ (x : Repaired). x .word) r, ap (λ (x : Repaired). numberOf (x .found)) r, ap not (ne-eqb (checksOf (turn v p)) 0 (one-seen v long clean p h)))
+hurt-by v p false e long clean =
+    let r = none-kept v clean in
+    (long, ap (λ (x : Repaired). x .word) r, ap (λ (x : Repaired). numberOf (x .found)) r, ap not (eq-eqb (checksOf v) 0 clean))
+
+pub hurt-word : (v : List ℕ) (p : ℕ) → length v ≡ 16 → checksOf v ≡ 0 → Hurt v p
+unfolding hurt
+hurt-word v p long clean =
+    let h = hurt-by v p (ltb p 128) refl long clean in record { long = h .0; back = h .1; found = h .2; seen = h .3 }
+
+zeros : allZero (replicate 16 0) ≡ true
+unfolding allZero
+zeros = refl
+
+none-left : (c : ℕ) → answerOf [] c ≡ done c
+unfolding answerOf
+none-left c = refl
+
+-- ---- the damaged capture, read
+
+module _ (N m0 : ℕ) (info par : List ℕ) (flips : Choice) where
+  abbrev F : ℕ → ℕ → ℕ
+  F = fecBit m0 info par
+
+  abbrev cap : List ℕ
+  cap = damaged N flips (captureOf N m0 info par)
+
+  bits : (t : ℕ) → Bits (F t)
+  bits t = fec-bits m0 info par t
+
+  clean : (w : ℕ) → checksOf (wordsOf N F w) ≡ 0
+  unfolding wordsOf
+  clean w = coded-checks (slotBit N (elementOf (superOf F)) w) (held-bits N F w)
+
+  hurt-at : (w : ℕ) → Hurt (wordsOf N F w) (flips w)
+  hurt-at w = hurt-word (wordsOf N F w) (flips w) (words-long N F w) (clean w)
+
+  coded-word : (w : ℕ) → w < words N → wordIn (captureOf N m0 info par) w ≡ wordsOf N F w
+  unfolding captureOf
+  coded-word w h = word-laid N (wordsOf N F) w h (words-long N F w)
+
+  damaged-word : (w : ℕ) → w < words N → wordIn cap w ≡ hurt (wordsOf N F w) (flips w)
+  unfolding damaged
+  damaged-word w h =
+      let e : hurt (wordIn (captureOf N m0 info par) w) (flips w) ≡ hurt (wordsOf N F w) (flips w) = ap (λ (s : List ℕ). hurt s (flips w)) (coded-word w h) in
+      word-laid N (λ x. hurt (wordIn (captureOf N m0 info par) x) (flips x)) w h (ap length e ∙ hurt-at w .long) ∙ e
+
+  -- every word comes back
+  pub words-back : (w : ℕ) → w < words N → repaired cap w ≡ wordsOf N F w
+  unfolding repaired
+  words-back w h = ap (λ (s : List ℕ). repairOf s .word) (damaged-word w h) ∙ hurt-at w .back
+
+  -- ---- no row applies
+
+  no-4 : (w : ℕ) → w < words N → isBeyond cap w ≡ false
+  unfolding isBeyond
+  no-4 w h = rw (damaged-word w h, hurt-at w .found)
+
+  filler-zero : (w : ℕ) → w < words N → (b : Bool) → holds N w ≡ b → not b && not (allZero (repaired cap w)) ≡ false
+  filler-zero w h true e = refl
+  filler-zero w h false e = rw (words-back w h, ← (word-filler N F w e), zeros)
+
+  no-5 : (w : ℕ) → w < words N → isFilled N cap w ≡ false
+  unfolding isFilled
+  no-5 w h = filler-zero w h (holds N w) refl
+
+  block-read : (t i : ℕ) → t < fecBlocks * N → i < fecBits → fecIn (repaired cap) t i ≡ F t i
+  block-read = fec-read N F (repaired cap) words-back bits
+
+  no-6 : (t : ℕ) → t < fecBlocks * N → mbasDiffers m0 cap t ≡ false
+  unfolding mbasDiffers
+  no-6 t h =
+      let e : num mbasBits (fecIn (repaired cap) t) mbasFrom ≡ mbasOf m0 t =
+          num-is mbasBits (fecIn (repaired cap) t) mbasFrom (mbasOf m0 t) (mbas-lt m0 t)
+          (λ j l. block-read t (mbasFrom + j) h (omega arith) ∙ fec-mbas m0 info par t j l) in
+      ap not (eq-eqb (num mbasBits (fecIn (repaired cap) t) mbasFrom) (mbasOf m0 t) e)
+
+  crc-small : (t : ℕ) → blockCrc info t < 2 ^ crcBits
+  unfolding blockCrc
+  crc-small t = crc-lt infoBits (infoBit info t) (info-bits info t)
+
+  crc-read : (t : ℕ) → t < fecBlocks * N → crcOf infoBits (fecIn (repaired cap) t) ≡ blockCrc info t
+  unfolding blockCrc
+  crc-read t h = crc-ext infoBits (fecIn (repaired cap) t) (infoBit info t) (λ i l. block-read t i h (omega arith) ∙ fec-info m0 info par t i l)
+
+  no-7 : (t : ℕ) → t < fecBlocks * N → crcDiffers cap t ≡ false
+  unfolding crcDiffers
+  no-7 t h =
+      let e : num crcBits (fecIn (repaired cap) t) infoBits ≡ blockCrc info t =
+          num-is crcBits (fecIn (repaired cap) t) infoBits (blockCrc info t) (crc-small t)
+          (λ j l. block-read t (infoBits + j) h (omega arith) ∙ fec-crc m0 info par t j l) in
+      ap not (eq-eqb (num crcBits (fecIn (repaired cap) t) infoBits) (crcOf infoBits (fecIn (repaired cap) t)) (e ∙ sym (crc-read t h)))
+
+  no-8 : (f : ℕ) → f < N → padDiffers cap f ≡ false
+  unfolding padDiffers
+  no-8 f h =
+      let e : num padBits (superIn (repaired cap) f) padFrom ≡ 0 =
+          num-zero padBits (superIn (repaired cap) f) padFrom
+          (λ j l. super-read N F (repaired cap) words-back bits f (padFrom + j) h (omega arith) ∙ super-pad F f (padFrom + j) (omega arith)) in
+      ap not (eq-eqb (num padBits (superIn (repaired cap) f) padFrom) 0 e)
+
+  -- the count is exact
+  seen-chosen : (w : ℕ) → w < words N → isSeen cap w ≡ chosen flips w
+  unfolding isSeen
+  seen-chosen w h = rw (damaged-word w h) (hurt-at w .seen)
+
+  counted : count (isSeen cap) (words N) ≡ howMany N flips
+  unfolding howMany
+  counted = count-ext (isSeen cap) (chosen flips) (words N) seen-chosen
+
+  module _ (input : Input N m0 info par) (info₀ par₀ : List ℕ) (info₀-long : length info₀ ≡ infoLength N) (par₀-long : length par₀ ≡ parityLength N) where
+    right : (n : ℕ) (s : List ℕ) → length s ≡ n → wrong n s ≡ false
+    unfolding wrong
+    right n s e = ap not (eq-eqb (length s) n e)
+
+    cap-long : length cap ≡ captureLength N
+    unfolding damaged
+    cap-long = length-laid N (λ w. hurt (wordIn (captureOf N m0 info par) w) (flips w))
+
+    lengths : (rows : List Row) (c : ℕ)
+        → answerOf (buffers wrongLength (wrong (captureLength N) cap ∷ wrong (infoLength N) info₀ ∷ wrong (parityLength N) par₀ ∷ []) ∷ rows) c ≡ answerOf rows c
+    unfolding inTurn
+    lengths rows c =
+        row-buffers wrongLength (wrong (captureLength N) cap ∷ wrong (infoLength N) info₀ ∷ wrong (parityLength N) par₀ ∷ []) rows c
+        ∙ rw (right (captureLength N) cap cap-long, right (infoLength N) info₀ info₀-long, right (parityLength N) par₀ par₀-long)
+
+    pub answers-done : readAnswer N m0 cap info₀ par₀ ≡ done (howMany N flips)
+    unfolding readAnswer readRows
+    answers-done =
+        let c = count (isSeen cap) (words N) in
+        row-none _ _ c (λ p l. rw (input .frames, input .number))
+        ∙ lengths _ c
+        ∙ row-none _ _ c no-4
+        ∙ row-none _ _ c no-5
+        ∙ row-none _ _ c no-6
+        ∙ row-none _ _ c no-7
+        ∙ row-none _ _ c no-8
+        ∙ none-left c
+        ∙ ap done counted
+
+    info-read : infoOf N (fecIn (repaired cap)) ≡ info
+    info-read =
+        info-back N (fecIn (repaired cap)) info (input .info-long) (input .info-bytes)
+        (λ t i ht hi. block-read t i ht (omega arith) ∙ fec-info m0 info par t i hi)
+
+    parity-read : parityOf N (fecIn (repaired cap)) ≡ par
+    parity-read =
+        parity-back N (fecIn (repaired cap)) par (input .parity-long) (input .parity-bytes)
+        (λ t j ht hj. block-read t (parityFrom + j) ht (omega arith) ∙ fec-parity m0 info par t j)
+
+    pub leaves-input : readLeaves N m0 cap info₀ par₀ ≡ (info, par)
+    unfolding readLeaves
+    leaves-input =
+        written-done (readAnswer N m0 cap info₀ par₀) (infoOf N (fecIn (repaired cap)), parityOf N (fecIn (repaired cap))) (info₀, par₀)
+        (ap (λ (a : Answer). a .number) answers-done)
+        ∙ rw (info-read, parity-read)
+
+-- ---- the theorem
+
+-- what reading a damaged capture must come to, whatever the two buffers held before
+pub record ReadBack (N m0 : ℕ) (info par cap : List ℕ) (seen : ℕ) : Type 0 where
+  pub answer : (info₀ par₀ : List ℕ) → length info₀ ≡ infoLength N → length par₀ ≡ parityLength N → readAnswer N m0 cap info₀ par₀ ≡ done seen
+  pub leaves : (info₀ par₀ : List ℕ) → length info₀ ≡ infoLength N → length par₀ ≡ parityLength N → readLeaves N m0 cap info₀ par₀ ≡ (info, par)
+
+pub demand-2 : (N m0 : ℕ) (info par : List ℕ) → Input N m0 info par → (flips : Choice)
+    → ReadBack N m0 info par (damaged N flips (captureOf N m0 info par)) (howMany N flips)
+demand-2 N m0 info par input flips =
+    record { answer = answers-done N m0 info par flips input; leaves = leaves-input N m0 info par flips input }

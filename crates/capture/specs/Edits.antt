@@ -1,0 +1,20 @@
+-- Demand 3: the input with one client block and its FEC block's parity replaced. Assumes nothing: these are definitions.
+use Prim.Native.Nat.{ℕ, _+_, _-_, _*_, _/_, _%_}
+use mathlib.Core.Bool.{cond, _&&_}
+use mathlib.Core.List.{List}
+use lib.Dec.{ltb, leb, eqb}
+use lib.ListN.{getD}
+use Rattle.bits.specs.Bits.{tabulate, bitAt, pack}
+use Rattle.line.specs.Sizes.{blockBits, clientBlocks, parityBytes, infoLength, parityLength}
+
+-- client block b of the capture stands at bits 257 b .. 257 b + 256 of the information
+unfoldable pub newInfo : ℕ → ℕ → List ℕ → List ℕ → List ℕ
+newInfo N b bits info =
+    pack (infoLength N)
+    (λ j. cond (leb (blockBits * b) j && ltb j (blockBits * b + blockBits)) (bitAt bits (j - blockBits * b)) (bitAt info j))
+
+-- the parity of FEC block b / 952 stands at bytes 2,048 (b / 952) .. of the parity
+unfoldable pub newParity : ℕ → ℕ → List ℕ → List ℕ → List ℕ
+newParity N b parity par =
+    tabulate (parityLength N)
+    (λ k. cond (eqb (k / parityBytes) (b / clientBlocks)) (getD parity (k % parityBytes) 0) (getD par k 0))
