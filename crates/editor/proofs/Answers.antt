@@ -108,6 +108,9 @@ judged-answer N b bits parity cap list r e n =
     (λ z. n (ap (λ (x : Answer). x .number) e ∙ z))
     ∙ sym (rows-chain N b bits parity cap list)
 
+zero-not : (k : ℕ) → 0 ≡ suc k → ⊥
+zero-not k e = omega arith
+
 -- a test that refuses with a number above 0 was passed
 guard : (t : Bool) (k p : ℕ) (y : Answer) → cond t (refused (suc k) p) y .number ≡ allDone → (t ≡ false) × (y .number ≡ allDone)
 guard true k p y e = absurd (omega arith)
@@ -215,3 +218,22 @@ module _ (N b : ℕ) (bits parity cap list : List ℕ) where
   unfolding editLeaves
   edits r cap′ list′ c e z p =
       meets-done (cap, list) e z (ap₂ (λ (x y : List ℕ). (x, y)) (passing-capture N b bits parity cap list p) (passing-list N b bits parity cap list p))
+
+  -- ---- each return of the code
+
+  pub judged-outcome : (r : Answer) → r ≡ judged N b (length bits) (length parity) (length cap) (length list) → (r .number ≡ allDone → ⊥)
+      → Outcome (editAnswer N b bits parity cap list) (editLeaves N b bits parity cap list) r (cap, list)
+  judged-outcome r e n = refuses r (judged-answer N b bits parity cap list r e n) n
+
+  pub spare-outcome : (r : Answer) → Fits → spareSet bits ≡ true → r ≡ refused spareBit (bufferPlace 1)
+      → Outcome (editAnswer N b bits parity cap list) (editLeaves N b bits parity cap list) r (cap, list)
+  spare-outcome r f s e = refuses r (spare-answer r f s e) (λ z. zero-not 2 (sym z ∙ ap (λ (x : Answer). x .number) e))
+
+  pub nine-outcome : (r : Answer) (w : ℕ) → Accepted N b bits parity cap list → w ≡ first (fails N b cap) (words N) → w < words N → r ≡ refused listedFails w
+      → Outcome (editAnswer N b bits parity cap list) (editLeaves N b bits parity cap list) r (cap, list)
+  nine-outcome r w a e l q = refuses r (nine-answer r w a e l q) (λ z. zero-not 8 (sym z ∙ ap (λ (x : Answer). x .number) q))
+
+  pub done-outcome : (r : Answer) (w c : ℕ) (cap′ list′ : List ℕ) → Accepted N b bits parity cap list → w ≡ first (fails N b cap) (words N) → words N ≤ w
+      → Passing N b bits parity cap list (words N) cap′ list′ c → r ≡ done c → Outcome (editAnswer N b bits parity cap list) (editLeaves N b bits parity cap list) r (cap′, list′)
+  done-outcome r w c cap′ list′ a e l p q =
+      edits r cap′ list′ c (done-answer r w c a e l (p .counted) q) (ap (λ (x : Answer). x .number) q) p

@@ -5,15 +5,17 @@ use mathlib.Core.Path.{_≡_, refl, sym, ap, ap₂, _∙_}
 use mathlib.Core.List.{List}
 use native.Mathlib.Decide.{decLt}
 use native.Mathlib.Omega.{arith}
-use borrow.Author.Tests.{ltb-true, ltb-false, leb-true, leb-false, eqb-true, eq-eqb, lt-ltb, le-ltb, le-leb, lt-leb, not-true}
+use borrow.Author.Tests.{ltb-true, ltb-false, leb-true, leb-false, eqb-true, eq-eqb, ne-eqb, lt-ltb, le-ltb, le-leb, lt-leb, not-true}
 use lib.Dec.{ltb, leb, eqb}
 use lib.ListN.{length, getD}
 use Rattle.bits.specs.Loops.{count}
 use Rattle.answer.proofs.Table.{clash, and-left, and-right}
+use Rattle.hamming.specs.Code.{checksOf}
+use Rattle.line.specs.Words.{wordIn}
 use Rattle.line.specs.Sizes.{clientBlocks, fecBlocks, elementBits, superElements, fecElements, infoElements, words}
 use Rattle.line.specs.Slots.{slotOf, elementIn, holds}
 use Rattle.line.proofs.SlotLaws.{held, element-slot, slot-lt, slot-once, holds-slot}
-use Rattle.editor.specs.Edit.{blocksOf, fecOf, blockFrom, touched, elementFec, elementLocal, isPad, touches, listed, picked, listOf}
+use Rattle.editor.specs.Edit.{blocksOf, fecOf, blockFrom, touched, elementFec, elementLocal, isPad, touches, listed, picked, listOf, fails}
 use Rattle.editor.proofs.Touching.{Touch, touches-at, touches-some, element-tail, element-block, element-before, element-past}
 use Rattle.editor.proofs.Picking.{length-picked, Ranked, picked-entry, picked-rises, picked-room, picked-has, In, count-few, count-many}
 
@@ -69,6 +71,24 @@ listed-empty N b w h = rw h
 pub listed-pad : (N b w : ℕ) → holds N w ≡ true → fecElements * fecBlocks ≤ elementIn w % superElements → false ≡ listed N b w
 unfolding listed isPad
 listed-pad N b w h l = rw (h, le-leb (fecElements * fecBlocks) (elementIn w % superElements) l)
+
+pub listed-elsewhere : (N b w : ℕ) → holds N w ≡ true → elementIn w % superElements < fecElements * fecBlocks → (elementFec (elementIn w) ≡ fecOf b → ⊥) → false ≡ listed N b w
+unfolding listed
+listed-elsewhere N b w h l n = rw (h, no-pad-test (elementIn w) l, ne-eqb (elementFec (elementIn w)) (fecOf b) n)
+
+pub listed-touches : (N b w : ℕ) → holds N w ≡ true → elementIn w % superElements < fecElements * fecBlocks → elementFec (elementIn w) ≡ fecOf b
+    → touches b (elementBits * elementLocal (elementIn w)) elementBits ≡ listed N b w
+unfolding listed
+listed-touches N b w h l e = rw (h, no-pad-test (elementIn w) l, eq-eqb (elementFec (elementIn w)) (fecOf b) e)
+
+-- number 9
+pub fails-unlisted : (N b : ℕ) (cap : List ℕ) (w : ℕ) → listed N b w ≡ false → false ≡ fails N b cap w
+unfolding fails
+fails-unlisted N b cap w h = rw h
+
+pub fails-listed : (N b : ℕ) (cap : List ℕ) (w : ℕ) → listed N b w ≡ true → not (eqb (checksOf (wordIn cap w)) 0) ≡ fails N b cap w
+unfolding fails
+fails-listed N b cap w h = rw h
 
 -- ---- how many there are
 

@@ -221,3 +221,18 @@ module _ (N b : ℕ) (bits parity cap₀ list₀ : List ℕ) where
   pub passing-list : {c : ℕ} {cap list : List ℕ} → Passing N b bits parity cap₀ list₀ (words N) cap list c → list ≡ listOf N b ++ drop (count (listed N b) (words N)) list₀
   unfolding listOf listing
   passing-list p = p .entries
+
+  -- the loop is over
+  pub passing-end : {w c : ℕ} {cap list : List ℕ} → Passing N b bits parity cap₀ list₀ w cap list c → w ≤ words N → words N ≤ w → Passing N b bits parity cap₀ list₀ (words N) cap list c
+  passing-end {w} p h l = let e : w ≡ words N = omega arith in rw e at p
+
+-- ---- how code makes a turn
+
+module _ (N b : ℕ) (bits parity : List ℕ) (crc w c : ℕ) (cap list : List ℕ) where
+  pub turned-yes : (old v cap′ : List ℕ) → listed N b w ≡ true → old ≡ wordIn cap w → v ≡ remade b bits parity crc w old → cap′ ≡ putWord cap w v
+      → Turned N b bits parity crc w c cap list cap′ (set list c w) (c + 1)
+  turned-yes old v cap′ h p q e =
+      record { capture = rw (h, e, q, p); entries = rw h; counted = rw h }
+
+  pub turned-no : listed N b w ≡ false → Turned N b bits parity crc w c cap list cap list c
+  turned-no h = record { capture = rw h; entries = rw h; counted = rw h }

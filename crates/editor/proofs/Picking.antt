@@ -194,9 +194,13 @@ count-few s zero p n h = omega (arith, count-none p n (λ w l. no-one (p w) refl
     no-one true e g = absurd (not-suc-le-zero (g e .within))
     no-one false e g = e
 count-few s (suc k) p n h =
-    omega (arith, count-less p (s k) n, count-few s k (without p (s k)) n
-    (λ w e. let d = without-true p (s k) w e in let r = h w (d .0) in
-      record { index = r .index; within = ⊎-elim (λ q. absurd (d .1 (r .is ∙ ap s (low q)))) (λ l. le-of-suc-le-suc l) (eq-or-lt-of-le (r .within)); is = r .is }))
+    omega (
+      arith,
+      count-less p (s k) n,
+      count-few s k (without p (s k)) n
+          (λ w e. let d = without-true p (s k) w e in let r = h w (d .0) in
+          record { index = r .index; within = ⊎-elim (λ q. absurd (d .1 (r .is ∙ ap s (low q)))) (λ l. le-of-suc-le-suc l) (eq-or-lt-of-le (r .within)); is = r .is }),
+    )
   where
     low : {a b : ℕ} → suc a ≡ suc b → a ≡ b
     low q = omega arith
@@ -205,6 +209,10 @@ count-few s (suc k) p n h =
 pub count-many : (s : ℕ → ℕ) (k : ℕ) (p : ℕ → Bool) (n : ℕ) → ((i : ℕ) → i < k → (s i < n) × (p (s i) ≡ true)) → ((i j : ℕ) → i < j → j < k → s i ≡ s j → ⊥) → k ≤ count p n
 count-many s zero p n h g = omega arith
 count-many s (suc k) p n h g =
-    omega (arith, count-one-less p (s k) n (h k (omega arith) .0) (h k (omega arith) .1), count-many s k (without p (s k)) n
-    (λ i l. (h i (omega arith) .0, without-other p (s k) (s i) (g i k l (omega arith)) ∙ h i (omega arith) .1))
-    (λ i j l m. g i j l (omega arith)))
+    omega (
+      arith,
+      count-one-less p (s k) n (h k (omega arith) .0) (h k (omega arith) .1),
+      count-many s k (without p (s k)) n
+          (λ i l. (h i (omega arith) .0, without-other p (s k) (s i) (g i k l (omega arith)) ∙ h i (omega arith) .1))
+          (λ i j l m. g i j l (omega arith)),
+    )

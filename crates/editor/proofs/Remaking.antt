@@ -59,6 +59,22 @@ module _ (b : ℕ) (bits parity : List ℕ) (crc k x : ℕ) where
   unfolding newBit
   new-parity = fields-parity inInfo inCrc inMbas inParity
 
+  -- the same by the place
+  pub new-crc-at : (p : ℕ) → infoBits ≤ p → p < mbasFrom → newBit b bits parity crc p k x ≡ (x + digit crcBits crc (p - infoBits)) % 2
+  new-crc-at p h l =
+      let e : p ≡ infoBits + (p - infoBits) = omega arith in
+      ap (λ (y : ℕ). newBit b bits parity crc y k x) e ∙ new-crc (p - infoBits) (omega arith)
+
+  pub new-mbas-at : (p : ℕ) → mbasFrom ≤ p → p < parityFrom → newBit b bits parity crc p k x ≡ x
+  new-mbas-at p h l =
+      let e : p ≡ mbasFrom + (p - mbasFrom) = omega arith in
+      ap (λ (y : ℕ). newBit b bits parity crc y k x) e ∙ new-mbas (p - mbasFrom) (omega arith)
+
+  pub new-parity-at : (p : ℕ) → parityFrom ≤ p → newBit b bits parity crc p k x ≡ (bitAt parity (p - parityFrom) + o k) % 2
+  new-parity-at p h =
+      let e : p ≡ parityFrom + (p - parityFrom) = omega arith in
+      ap (λ (y : ℕ). newBit b bits parity crc y k x) e ∙ new-parity (p - parityFrom)
+
   pub new-lt : x < 2 → Bits (λ p. newBit b bits parity crc p k x)
   unfolding newBit newInfoBit
   new-lt h =
@@ -143,7 +159,7 @@ word-made N b bits parity cap w crc old h c q =
     ∙ element-of (editedFec b bits parity F) e i (l .no-pad) m
     ∙ ap (λ (g : ℕ → ℕ). (g (elementBits * elementLocal e + i) + o (elementBits * (e % superElements) + i)) % 2) (edited-here b bits parity F t (l .block))
     ∙ edited-new b bits parity (F t) (elementBits * (e % superElements) + i) (bitAt (wordIn cap w) i) (bitOf-lt 8 (wordIn cap w) i) (elementBits * elementLocal e + i) (place-lt e i m)
-      (received-at (wordIn cap) e i (l .no-pad) m ∙ ap (λ (x : ℕ). (bitAt (wordIn cap x) i + o (elementBits * (e % superElements) + i)) % 2) (held N w (l .element) .back)))))
+    (received-at (wordIn cap) e i (l .no-pad) m ∙ ap (λ (x : ℕ). (bitAt (wordIn cap x) i + o (elementBits * (e % superElements) + i)) % 2) (held N w (l .element) .back)))))
   where
     place-lt : (e i : ℕ) → i < elementBits → elementBits * elementLocal e + i < fecBits
     place-lt e i h = omega (arith, local-lt e)
