@@ -1,2 +1,3 @@
--- What `edit` answers, changes and lists.
+-- What `edit` answers, changes and lists; and the steps on the way there.
 pub mod Edit
+pub mod Parts

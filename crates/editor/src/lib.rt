@@ -1,1 +1,493 @@
-// editor
+// Editing a capture: one client block and the parity of its FEC block replaced in place, and the words listed that hold them.
+use answer::Answer;
+ghost use mathlib.Core.Path.{_≡_};
+ghost use mathlib.Core.Bool.{not};
+ghost use lib.Dec.{eqb};
+ghost use Prim.Native.Nat.{_+_, _*_, _%_, _≤_, _<_};
+ghost use lib.ListN.{length};
+ghost use Rattle.bits.specs.Bits.{bitAt, byteOf, pack};
+ghost use Rattle.bits.specs.Loops.{first};
+ghost use Rattle.answer.specs.Outcomes.{Outcome};
+ghost use Rattle.scrambler.specs.Scrambler.{o, frameBytes};
+ghost use Rattle.hamming.specs.Code.{checksOf};
+ghost use Rattle.hamming.specs.Lent.{byteTable};
+ghost use Rattle.line.specs.Sizes.{infoBits, infoBytes, fecBits, fecBlocks, superBits, elementBits, superElements, fecElements, infoElements, captureLength, words};
+ghost use Rattle.line.specs.Slots.{slotOf, elementIn};
+ghost use Rattle.line.specs.Words.{symbolPlace, wordIn, fecIn};
+ghost use Rattle.editor.specs.Edit.{listLength, fecOf, change, crcChange, elementLocal, touches, listed, fails, spareSet, editAnswer, editLeaves};
+ghost use Rattle.editor.specs.Parts.{judged, Accepted, newInfoBit, newBit, newElement, parityElement, remade, putWord, Lent, Passing, Turned};
+
+// Replaces client block `block` of a capture of n super frames by the 257 bits of `bits` and its FEC block's parity by `parity`, changes the
+// CRC by what the changed bits leave, and lists the words that hold any of these. The count is how many were listed.
+pub fn edit(
+    n: u64,
+    block: u64,
+    bits: &[u8],
+    parity: &[u8],
+    capture: &mut [u8],
+    list: &mut [u64],
+) -> Answer
+    ensures { λ r. ⌜ Outcome (editAnswer n block (now (bits .entry)) (now (parity .entry)) (now (capture .entry)) (now (list .entry))) (editLeaves n block (now (bits .entry)) (now (parity .entry)) (now (capture .entry)) (now (list .entry))) r (now (capture .exit), now (list .exit)) ⌝ }
+{
+    let r = judge(
+        n,
+        block,
+        bits.len() as u64,
+        parity.len() as u64,
+        capture.len() as u64,
+        list.len() as u64,
+    );
+    if r.number != 0 {
+        return r;
+    }
+    if spare_set(bits) {
+        return answer::refuse(answer::SPARE_BIT, answer::buffer_place(1));
+    }
+    edit_checked(n as usize, block as usize, bits, parity, capture, list)
+}
+
+// Numbers 1 and 2, from the numbers and the buffers' lengths.
+fn judge(n: u64, block: u64, bits: u64, parity: u64, capture: u64, list: u64) -> Answer
+    ensures { λ r. ⌜ r ≡ judged n block bits parity capture list ⌝ }
+{
+    if n < 1 {
+        return answer::refuse(answer::OUTSIDE_SET, 0);
+    }
+    if 8 < n {
+        return answer::refuse(answer::OUTSIDE_SET, 0);
+    }
+    if 4760 * n <= block {
+        return answer::refuse(answer::OUTSIDE_SET, 0);
+    }
+    if bits != 33 {
+        return answer::refuse(answer::WRONG_LENGTH, answer::buffer_place(1));
+    }
+    if parity != 2048 {
+        return answer::refuse(answer::WRONG_LENGTH, answer::buffer_place(2));
+    }
+    if capture != 175616 * n + 7680 {
+        return answer::refuse(answer::WRONG_LENGTH, answer::buffer_place(3));
+    }
+    if list != 145 {
+        return answer::refuse(answer::WRONG_LENGTH, answer::buffer_place(4));
+    }
+    answer::granted(0)
+}
+
+// Whether one of the seven spare bits behind the 257 is set.
+fn spare_set(bits: &[u8]) -> bool
+    ensures { λ r. ⌜ r ≡ spareSet (now (bits .entry)) ⌝ }
+{
+    bits::byte_at(bits, 32) % 128 != 0
+}
+
+// ---- which words are listed
+
+// Whether local element m of an FEC block holds a bit of client block b, of the CRC or of the parity. From element 2056 on each does.
+fn holds_touched(b: usize, m: usize) -> bool
+    requires { ⌜ m < fecElements ⌝ }
+    ensures { λ r. ⌜ r ≡ touches b (elementBits * m) elementBits ⌝ }
+{
+    let from = 257 * (b % 952);
+    2056 <= m || (from / 119 <= m && m <= (from + 256) / 119)
+}
+
+// Whether word w of n super frames is listed.
+fn is_listed(n: usize, b: usize, w: usize) -> bool
+    ensures { λ r. ⌜ r ≡ listed n b w ⌝ }
+{
+    if !line::holds_element(n, w) {
+        return false;
+    }
+    let e = line::element_in(w);
+    let l = e % 10976;
+    if 10970 <= l {
+        return false;
+    }
+    if 5 * (e / 10976) + l / 2194 != b / 952 {
+        return false;
+    }
+    holds_touched(b, l % 2194)
+}
+
+// ---- number 9
+
+// Whether a word has checks that are not zero.
+fn fails_check(t: &[u16; 4096], v: [u8; 16]) -> bool
+    requires { ⌜ now t ≡ byteTable ⌝ }
+    ensures { λ r. ⌜ r ≡ not (eqb (checksOf v) 0) ⌝ }
+{
+    hamming::checks_by(t, v) != 0
+}
+
+// Whether word w is to be listed and fails a check.
+fn is_refused(n: usize, b: usize, capture: &[u8], t: &[u16; 4096], w: usize) -> bool
+    requires { ⌜ now t ≡ byteTable ⌝ }
+    ensures { λ r. ⌜ r ≡ fails n b (now (capture .entry)) w ⌝ }
+{
+    if !is_listed(n, b, w) {
+        return false;
+    }
+    fails_check(t, line::word_in(capture, w))
+}
+
+// The first such word, or the number of words.
+fn first_refused(n: usize, b: usize, capture: &[u8], t: &[u16; 4096]) -> usize
+    requires { ⌜ (n ≤ 8) × (now t ≡ byteTable) ⌝ }
+    ensures { λ r. ⌜ r ≡ first (fails n b (now (capture .entry))) (words n) ⌝ }
+{
+    for w in 0..10976 * n + 480 {
+        if is_refused(n, b, capture, t, w) {
+            return w;
+        }
+    }
+    10976 * n + 480
+}
+
+// ---- the change of the CRC
+
+// The sum of two bits without the carry.
+fn add(x: u8, y: u8) -> u8
+    ensures { λ r. ⌜ r ≡ (x + y) % 2 ⌝ }
+{
+    (x % 2 + y % 2) % 2
+}
+
+// Bit j of word w of a capture.
+fn word_bit(capture: &[u8], w: usize, j: usize) -> u8
+    requires { ⌜ (w < 100000) × (j < 128) ⌝ }
+    ensures { λ r. ⌜ r ≡ bitAt (wordIn (now (capture .entry)) w) j ⌝ }
+{
+    bits::bit_at(capture, 8 * (128 * (w / 8) + 8 * (j / 8) + w % 8) + j % 8)
+}
+
+// The slot of element e.
+fn slot(e: usize) -> usize
+    requires { ⌜ e < 90000 ⌝ }
+    ensures { λ r. ⌜ r ≡ slotOf e ⌝ }
+{
+    e + 32 * (15 - e % 16)
+}
+
+// Bit i of FEC block t of a capture, descrambled.
+fn received_bit(capture: &[u8], scr: &[u8; 163268], t: usize, i: usize) -> u8
+    requires { ⌜ (now scr ≡ pack frameBytes o) × (t < 40) × (i < fecBits) ⌝ }
+    ensures { λ r. ⌜ r ≡ fecIn (wordIn (now (capture .entry))) t i ⌝ }
+{
+    let k = 261086 * (t % 5) + i;
+    let w = slot(10976 * (t / 5) + k / 119);
+    add(word_bit(capture, w, k % 119), bits::bit_at(scr, k))
+}
+
+// Bit i of the change of client block b's FEC block: outside the block nothing changes.
+fn changed_bit(b: usize, bits: &[u8], capture: &[u8], scr: &[u8; 163268], i: usize) -> u8
+    requires { ⌜ (now scr ≡ pack frameBytes o) × (b < 38080) × (i < infoBits) ⌝ }
+    ensures { λ r. ⌜ r ≡ change b (now (bits .entry)) (fecIn (wordIn (now (capture .entry))) (fecOf b)) i ⌝ }
+{
+    let from = 257 * (b % 952);
+    if i < from {
+        return 0;
+    }
+    if from + 257 <= i {
+        return 0;
+    }
+    add(
+        received_bit(capture, scr, b / 952, i),
+        bits::bit_at(bits, i - from),
+    )
+}
+
+// Byte k of it: only some 33 bytes are looked at bit by bit.
+fn changed_byte(b: usize, bits: &[u8], capture: &[u8], scr: &[u8; 163268], k: usize) -> u8
+    requires { ⌜ (now scr ≡ pack frameBytes o) × (b < 38080) × (k < infoBytes) ⌝ }
+    ensures { λ r. ⌜ r ≡ byteOf (change b (now (bits .entry)) (fecIn (wordIn (now (capture .entry))) (fecOf b))) k ⌝ }
+{
+    let from = 257 * (b % 952);
+    if 8 * k + 8 <= from {
+        return 0;
+    }
+    if from + 257 <= 8 * k {
+        return 0;
+    }
+    let mut acc: u32 = 0;
+    for j in 0..8usize {
+        acc = acc * 2 + bits::wide(changed_bit(b, bits, capture, scr, 8 * k + j));
+    }
+    acc as u8
+}
+
+// All of them, at their places in the information.
+fn changed(b: usize, bits: &[u8], capture: &[u8], scr: &[u8; 163268], out: &mut [u8])
+    requires { ⌜ (now scr ≡ pack frameBytes o) × (b < 38080) × (length (now out) ≤ infoBytes) ⌝ }
+    ensures { λ _. ⌜ now (out .exit) ≡ pack (length (now (out .entry))) (change b (now (bits .entry)) (fecIn (wordIn (now (capture .entry))) (fecOf b))) ⌝ }
+{
+    for k in 0..out.len() {
+        out[k] = changed_byte(b, bits, capture, scr, k);
+    }
+}
+
+// What they leave: the change of the CRC.
+fn crc_change(b: usize, bits: &[u8], capture: &[u8], scr: &[u8; 163268]) -> u32
+    requires { ⌜ (now scr ≡ pack frameBytes o) × (b < 38080) ⌝ }
+    ensures { λ r. ⌜ r ≡ crcChange b (now (bits .entry)) (fecIn (wordIn (now (capture .entry))) (fecOf b)) ⌝ }
+{
+    let mut out = [0u8; 30583];
+    changed(b, bits, capture, scr, &mut out);
+    let t = crc::table();
+    crc::remainder(&t, 0, &out)
+}
+
+// ---- a word made anew
+
+// The new bit at place p of the information and place k of the super frame, where x was received.
+fn new_info_bit(b: usize, bits: &[u8], scr: &[u8; 163268], p: usize, k: usize, x: u8) -> u8
+    requires { ⌜ (now scr ≡ pack frameBytes o) × (k < superBits) ⌝ }
+    ensures { λ r. ⌜ r ≡ newInfoBit b (now (bits .entry)) p k x ⌝ }
+{
+    let from = 257 * (b % 952);
+    if p < from {
+        return x;
+    }
+    if from + 257 <= p {
+        return x;
+    }
+    add(bits::bit_at(bits, p - from), bits::bit_at(scr, k))
+}
+
+// The same anywhere in the FEC block: the MBAS stays, and the parity is replaced.
+fn new_bit(
+    b: usize,
+    bits: &[u8],
+    parity: &[u8],
+    scr: &[u8; 163268],
+    crc: u32,
+    p: usize,
+    k: usize,
+    x: u8,
+) -> u8
+    requires { ⌜ (now scr ≡ pack frameBytes o) × (k < superBits) ⌝ }
+    ensures { λ r. ⌜ r ≡ newBit b (now (bits .entry)) (now (parity .entry)) crc p k x ⌝ }
+{
+    if p < 244664 {
+        return new_info_bit(b, bits, scr, p, k, x);
+    }
+    if p < 244696 {
+        return add(x, ((crc >> (31 - (p - 244664))) % 2) as u8);
+    }
+    if p < 244702 {
+        return x;
+    }
+    add(bits::bit_at(parity, p - 244702), bits::bit_at(scr, k))
+}
+
+// Bit i of element e made anew, where old was received.
+fn new_element_bit(
+    b: usize,
+    bits: &[u8],
+    parity: &[u8],
+    scr: &[u8; 163268],
+    crc: u32,
+    e: usize,
+    old: &[u8],
+    i: usize,
+) -> u8
+    requires { ⌜ (now scr ≡ pack frameBytes o) × (e % superElements < fecElements * fecBlocks) × (i < 128) ⌝ }
+    ensures { λ r. ⌜ r ≡ newElement b (now (bits .entry)) (now (parity .entry)) crc e (now (old .entry)) i ⌝ }
+{
+    let l = e % 10976;
+    new_bit(
+        b,
+        bits,
+        parity,
+        scr,
+        crc,
+        119 * (l % 2194) + i,
+        119 * l + i,
+        bits::bit_at(old, i),
+    )
+}
+
+// Byte j of it.
+fn new_byte(
+    b: usize,
+    bits: &[u8],
+    parity: &[u8],
+    scr: &[u8; 163268],
+    crc: u32,
+    e: usize,
+    old: &[u8],
+    j: usize,
+) -> u8
+    requires { ⌜ (now scr ≡ pack frameBytes o) × (e % superElements < fecElements * fecBlocks) × (j < 16) ⌝ }
+    ensures { λ r. ⌜ r ≡ byteOf (newElement b (now (bits .entry)) (now (parity .entry)) crc e (now (old .entry))) j ⌝ }
+{
+    let mut acc: u32 = 0;
+    for a in 0..8usize {
+        acc = acc * 2 + bits::wide(new_element_bit(b, bits, parity, scr, crc, e, old, 8 * j + a));
+    }
+    acc as u8
+}
+
+// The element, bit by bit: for the few elements that are not all parity.
+fn new_element(
+    b: usize,
+    bits: &[u8],
+    parity: &[u8],
+    scr: &[u8; 163268],
+    crc: u32,
+    e: usize,
+    old: &[u8],
+) -> [u8; 16]
+    requires { ⌜ (now scr ≡ pack frameBytes o) × (e % superElements < fecElements * fecBlocks) ⌝ }
+    ensures { λ r. ⌜ r ≡ pack 16 (newElement b (now (bits .entry)) (now (parity .entry)) crc e (now (old .entry))) ⌝ }
+{
+    let mut r = [0u8; 16];
+    for j in 0..16 {
+        r[j] = new_byte(b, bits, parity, scr, crc, e, old, j);
+    }
+    r
+}
+
+// An element that is all parity, in one piece.
+fn parity_element(parity: &[u8], scr: &[u8; 163268], e: usize) -> [u8; 16]
+    requires { ⌜ (now scr ≡ pack frameBytes o) × (e % superElements < fecElements * fecBlocks) × (infoElements < elementLocal e) ⌝ }
+    ensures { λ r. ⌜ r ≡ pack 16 (parityElement (now (parity .entry)) e) ⌝ }
+{
+    let l = e % 10976;
+    let at = 119 * (l % 2194) - 244702;
+    line::sum(bits::word_from(parity, at), bits::word_from(scr, 119 * l))
+}
+
+// Word w made anew, where old was received.
+fn new_word(
+    b: usize,
+    bits: &[u8],
+    parity: &[u8],
+    scr: &[u8; 163268],
+    t: &[u16; 4096],
+    tails: &[u16; 512],
+    crc: u32,
+    w: usize,
+    old: [u8; 16],
+) -> [u8; 16]
+    requires { ⌜ (Lent (now scr) (now t) (now tails)) × (elementIn w % superElements < fecElements * fecBlocks) ⌝ }
+    ensures { λ r. ⌜ r ≡ remade b (now (bits .entry)) (now (parity .entry)) crc w old ⌝ }
+{
+    let e = line::element_in(w);
+    if 2056 < e % 10976 % 2194 {
+        return hamming::encode_by(t, tails, parity_element(parity, scr, e));
+    }
+    hamming::encode_by(t, tails, new_element(b, bits, parity, scr, crc, e, &old))
+}
+
+// ---- the pass
+
+// Puts the sixteen symbols of word w to their places.
+fn put_word(capture: &mut [u8], w: usize, v: [u8; 16])
+    requires { ⌜ (w < 100000) × (symbolPlace w 15 < length (now capture)) ⌝ }
+    ensures { λ _. ⌜ now (capture .exit) ≡ putWord (now (capture .entry)) w v ⌝ }
+{
+    for k in 0..16 {
+        capture[128 * (w / 8) + 8 * k + w % 8] = v[k];
+    }
+}
+
+// One turn: word w, if it is listed, is made anew and becomes entry c of the list. Returns how many are listed now.
+fn turn(
+    n: usize,
+    b: usize,
+    bits: &[u8],
+    parity: &[u8],
+    scr: &[u8; 163268],
+    t: &[u16; 4096],
+    tails: &[u16; 512],
+    crc: u32,
+    w: usize,
+    c: usize,
+    capture: &mut [u8],
+    list: &mut [u64],
+) -> usize
+    requires { ⌜ (Lent (now scr) (now t) (now tails)) × (n ≤ 8) × (w < words n) × (length (now capture) ≡ captureLength n) × (c < length (now list)) ⌝ }
+    ensures { λ r. ⌜ Turned n b (now (bits .entry)) (now (parity .entry)) crc w c (now (capture .entry)) (now (list .entry)) (now (capture .exit)) (now (list .exit)) r ⌝ }
+{
+    if is_listed(n, b, w) {
+        let v = new_word(
+            b,
+            bits,
+            parity,
+            scr,
+            t,
+            tails,
+            crc,
+            w,
+            line::word_in(capture, w),
+        );
+        put_word(capture, w, v);
+        list[c] = w as u64;
+        return c + 1;
+    }
+    c
+}
+
+// All words in their order.
+fn rewrite(
+    n: usize,
+    b: usize,
+    bits: &[u8],
+    parity: &[u8],
+    scr: &[u8; 163268],
+    t: &[u16; 4096],
+    tails: &[u16; 512],
+    crc: u32,
+    capture: &mut [u8],
+    list: &mut [u64],
+) -> usize
+    requires { ⌜ (Lent (now scr) (now t) (now tails)) × (n ≤ 8) × (crc ≡ crcChange b (now bits) (fecIn (wordIn (now capture)) (fecOf b))) × (length (now capture) ≡ captureLength n) × (length (now list) ≡ listLength) ⌝ }
+    ensures { λ r. ⌜ Passing n b (now (bits .entry)) (now (parity .entry)) (now (capture .entry)) (now (list .entry)) (words n) (now (capture .exit)) (now (list .exit)) r ⌝ }
+{
+    let mut c: usize = 0;
+    for w in 0..10976 * n + 480 {
+        c = turn(n, b, bits, parity, scr, t, tails, crc, w, c, capture, list);
+    }
+    c
+}
+
+// What is made once, and then the pass. The change of the CRC is taken before the first word is written.
+fn replace(
+    n: usize,
+    b: usize,
+    bits: &[u8],
+    parity: &[u8],
+    t: &[u16; 4096],
+    capture: &mut [u8],
+    list: &mut [u64],
+) -> usize
+    requires { ⌜ (now t ≡ byteTable) × Accepted n b (now bits) (now parity) (now capture) (now list) ⌝ }
+    ensures { λ r. ⌜ Passing n b (now (bits .entry)) (now (parity .entry)) (now (capture .entry)) (now (list .entry)) (words n) (now (capture .exit)) (now (list .exit)) r ⌝ }
+{
+    let mut scr = [0u8; 163268];
+    scrambler::fill(&mut scr);
+    let tails = hamming::tail_table();
+    let crc = crc_change(b, bits, capture, &scr);
+    rewrite(n, b, bits, parity, &scr, t, &tails, crc, capture, list)
+}
+
+// The edit of a call that none of the numbers 1 to 3 refuses.
+fn edit_checked(
+    n: usize,
+    b: usize,
+    bits: &[u8],
+    parity: &[u8],
+    capture: &mut [u8],
+    list: &mut [u64],
+) -> Answer
+    requires { ⌜ Accepted n b (now bits) (now parity) (now capture) (now list) ⌝ }
+    ensures { λ r. ⌜ Outcome (editAnswer n b (now (bits .entry)) (now (parity .entry)) (now (capture .entry)) (now (list .entry))) (editLeaves n b (now (bits .entry)) (now (parity .entry)) (now (capture .entry)) (now (list .entry))) r (now (capture .exit), now (list .exit)) ⌝ }
+{
+    let t = hamming::byte_table();
+    let w = first_refused(n, b, capture, &t);
+    if w < 10976 * n + 480 {
+        return answer::refuse(answer::LISTED_FAILS, w as u64);
+    }
+    answer::granted(replace(n, b, bits, parity, &t, capture, list) as u64)
+}

@@ -1,0 +1,167 @@
+-- Which words are listed: what `listed` means, how many there are, and the list of them. Assumes nothing.
+use Prim.Native.Nat.{ℕ, suc, _+_, _-_, _*_, _/_, _%_, _≤_, _<_}
+use mathlib.Core.Bool.{Bool, true, false, cond, not, _&&_}
+use mathlib.Core.Path.{_≡_, refl, sym, ap, ap₂, _∙_}
+use mathlib.Core.List.{List}
+use native.Mathlib.Decide.{decLt}
+use native.Mathlib.Omega.{arith}
+use borrow.Author.Tests.{ltb-true, ltb-false, leb-true, leb-false, eqb-true, eq-eqb, ne-eqb, lt-ltb, le-ltb, le-leb, lt-leb, not-true}
+use lib.Dec.{ltb, leb, eqb}
+use lib.ListN.{length, getD}
+use Rattle.bits.specs.Loops.{count}
+use Rattle.answer.proofs.Table.{clash, and-left, and-right}
+use Rattle.hamming.specs.Code.{checksOf}
+use Rattle.line.specs.Words.{wordIn}
+use Rattle.line.specs.Sizes.{clientBlocks, fecBlocks, elementBits, superElements, fecElements, infoElements, words}
+use Rattle.line.specs.Slots.{slotOf, elementIn, holds}
+use Rattle.line.proofs.SlotLaws.{held, element-slot, slot-lt, slot-once, holds-slot}
+use Rattle.editor.specs.Edit.{blocksOf, fecOf, blockFrom, touched, elementFec, elementLocal, isPad, touches, listed, picked, listOf, fails}
+use Rattle.editor.proofs.Touching.{Touch, touches-at, touches-some, element-tail, element-block, element-before, element-past}
+use Rattle.editor.proofs.Picking.{length-picked, Ranked, picked-entry, picked-rises, picked-room, picked-has, In, count-few, count-many}
+
+-- ---- what it means: the word holds element e of the client block's FEC block, and one of its bits is touched
+
+pub record Holding (N b w : ℕ) : Type 0 where
+  pub element : holds N w ≡ true
+  pub no-pad : elementIn w % superElements < fecElements * fecBlocks
+  pub block : elementFec (elementIn w) ≡ fecOf b
+  pub touch : Touch b (elementBits * elementLocal (elementIn w)) elementBits
+
+pad-test : (e : ℕ) → isPad e ≡ false → e % superElements < fecElements * fecBlocks
+unfolding isPad
+pad-test e h = leb-false (fecElements * fecBlocks) (e % superElements) h
+
+no-pad-test : (e : ℕ) → e % superElements < fecElements * fecBlocks → isPad e ≡ false
+unfolding isPad
+no-pad-test e h = lt-leb (fecElements * fecBlocks) (e % superElements) h
+
+pub listed-holding : (N b w : ℕ) → listed N b w ≡ true → Holding N b w
+unfolding listed
+listed-holding N b w h =
+    let e = elementIn w in
+    let t₁ = holds N w in
+    let t₂ = not (isPad e) in
+    let t₃ = eqb (elementFec e) (fecOf b) in
+    let t₄ = touches b (elementBits * elementLocal e) elementBits in
+    let h₃ = and-left (t₁ && t₂ && t₃) t₄ h in
+    let h₂ = and-left (t₁ && t₂) t₃ h₃ in
+    record {
+      element = and-left t₁ t₂ h₂;
+      no-pad = pad-test e (not-true (isPad e) (and-right t₁ t₂ h₂));
+      block = eqb-true (elementFec e) (fecOf b) (and-right (t₁ && t₂) t₃ h₃);
+      touch = touches-some b (elementBits * elementLocal e) elementBits (and-right (t₁ && t₂ && t₃) t₄ h);
+    }
+
+pub holding-listed : (N b w : ℕ) → Holding N b w → listed N b w ≡ true
+unfolding listed
+holding-listed N b w h =
+    let e = elementIn w in
+    rw (
+      h .element,
+      no-pad-test e (h .no-pad),
+      eq-eqb (elementFec e) (fecOf b) (h .block),
+      touches-at b (elementBits * elementLocal e) elementBits (h .touch .bit) (h .touch .within) (h .touch .there),
+    )
+
+-- how code tests it: one test after the other
+pub listed-empty : (N b w : ℕ) → holds N w ≡ false → false ≡ listed N b w
+unfolding listed
+listed-empty N b w h = rw h
+
+pub listed-pad : (N b w : ℕ) → holds N w ≡ true → fecElements * fecBlocks ≤ elementIn w % superElements → false ≡ listed N b w
+unfolding listed isPad
+listed-pad N b w h l = rw (h, le-leb (fecElements * fecBlocks) (elementIn w % superElements) l)
+
+pub listed-elsewhere : (N b w : ℕ) → holds N w ≡ true → elementIn w % superElements < fecElements * fecBlocks → (elementFec (elementIn w) ≡ fecOf b → ⊥) → false ≡ listed N b w
+unfolding listed
+listed-elsewhere N b w h l n = rw (h, no-pad-test (elementIn w) l, ne-eqb (elementFec (elementIn w)) (fecOf b) n)
+
+pub listed-touches : (N b w : ℕ) → holds N w ≡ true → elementIn w % superElements < fecElements * fecBlocks → elementFec (elementIn w) ≡ fecOf b
+    → touches b (elementBits * elementLocal (elementIn w)) elementBits ≡ listed N b w
+unfolding listed
+listed-touches N b w h l e = rw (h, no-pad-test (elementIn w) l, eq-eqb (elementFec (elementIn w)) (fecOf b) e)
+
+-- number 9
+pub fails-unlisted : (N b : ℕ) (cap : List ℕ) (w : ℕ) → listed N b w ≡ false → false ≡ fails N b cap w
+unfolding fails
+fails-unlisted N b cap w h = rw h
+
+pub fails-listed : (N b : ℕ) (cap : List ℕ) (w : ℕ) → listed N b w ≡ true → not (eqb (checksOf (wordIn cap w)) 0) ≡ fails N b cap w
+unfolding fails
+fails-listed N b cap w h = rw h
+
+-- ---- how many there are
+
+-- the first element of the client block's FEC block, and the k-th of the elements that hold a touched bit: first the last 138, then the
+-- client block's own
+abbrev start : ℕ → ℕ
+start b = superElements * (fecOf b / fecBlocks) + fecElements * (fecOf b % fecBlocks)
+
+unfoldable own : ℕ → ℕ → ℕ
+own b k = cond (ltb k 138) (infoElements + k) (blockFrom b / elementBits + (k - 138))
+
+unfoldable slotNo : ℕ → ℕ → ℕ
+slotNo b k = slotOf (start b + own b k)
+
+own-tail : (b k : ℕ) → k < 138 → own b k ≡ infoElements + k
+unfolding own
+own-tail b k h = rw (lt-ltb k 138 h)
+
+own-block : (b j : ℕ) → own b (138 + j) ≡ blockFrom b / elementBits + j
+unfolding own
+own-block b j = let e : 138 + j - 138 ≡ j = omega arith in rw (le-ltb (138 + j) 138 (omega arith), e)
+
+-- how many of them: 141, or 142 where the client block lies in four elements
+unfoldable pub listedCount : ℕ → ℕ
+listedCount b = 138 + suc ((blockFrom b + 256) / elementBits - blockFrom b / elementBits)
+
+-- the element by its FEC block and its local number
+element-is : (b e : ℕ) → e % superElements < fecElements * fecBlocks → elementFec e ≡ fecOf b → e ≡ start b + elementLocal e
+unfolding elementFec elementLocal
+element-is b e h q =
+    let f : fecOf b / fecBlocks ≡ e / superElements = omega arith in
+    let g : fecOf b % fecBlocks ≡ e % superElements / fecElements = omega arith in
+    rw (f, g) (omega arith)
+
+-- a local element that holds a touched bit is one of those
+own-of : (b m : ℕ) → m < fecElements → touches b (elementBits * m) elementBits ≡ true → In (own b) (listedCount b) m
+unfolding listedCount
+own-of b m h t = by (decLt m infoElements) (decLt m (blockFrom b / elementBits)) (decLt ((blockFrom b + 256) / elementBits) m)
+  where
+    by : Dec (m < infoElements) → Dec (m < blockFrom b / elementBits) → Dec ((blockFrom b + 256) / elementBits < m) → In (own b) (138 + suc ((blockFrom b + 256) / elementBits - blockFrom b / elementBits)) m
+    by (no l) x y =
+        record { index = m - infoElements; within = omega arith; is = sym (own-tail b (m - infoElements) (omega arith) ∙ (omega arith)) }
+    by (yes l) (yes x) y = absurd (clash t (element-before b m l x))
+    by (yes l) (no x) (yes y) = absurd (clash t (element-past b m l y))
+    by (yes l) (no x) (no y) =
+        record { index = 138 + (m - blockFrom b / elementBits); within = omega arith; is = sym (own-block b (m - blockFrom b / elementBits) ∙ (omega arith)) }
+
+pub local-lt : (e : ℕ) → elementLocal e < fecElements
+unfolding elementLocal
+local-lt e = omega arith
+
+-- so a listed word is the slot of one of those
+listed-slot : (N b w : ℕ) → listed N b w ≡ true → In (slotNo b) (listedCount b) w
+unfolding slotNo
+listed-slot N b w h =
+    let l = listed-holding N b w h in
+    let e = elementIn w in
+    let t = l .touch in
+    let i = own-of b (elementLocal e) (local-lt e) (touches-at b (elementBits * elementLocal e) elementBits (t .bit) (t .within) (t .there)) in
+    record {
+      index = i .index;
+      within = i .within;
+      is = sym (held N w (l .element) .back) ∙ ap slotOf (element-is b e (l .no-pad) (l .block) ∙ ap (λ (m : ℕ). start b + m) (i .is));
+    }
+
+pub listed-count-le : (b : ℕ) → listedCount b ≤ 142
+unfolding listedCount
+listed-count-le b = omega arith
+
+pub listed-count-ge : (b : ℕ) → 141 ≤ listedCount b
+unfolding listedCount
+listed-count-ge b = omega arith
+
+-- AT MOST 142, however far a pass has come
+pub listed-few : (N b n : ℕ) → count (listed N b) n ≤ 142
+listed-few N b n = omega (arith, listed-count-le b, count-few (slotNo b) (listedCount b) (listed N b) n (listed-slot N b))

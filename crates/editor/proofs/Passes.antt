@@ -1,0 +1,238 @@
+-- A word put into a capture, and the pass that makes the listed words anew: where it starts, a turn, where it ends. Assumes nothing.
+use Prim.Native.Nat.{ℕ, zero, suc, _+_, _-_, _*_, _≤_, _<_}
+use mathlib.Core.Bool.{Bool, true, false, cond}
+use mathlib.Core.Path.{_≡_, refl, sym, ap, ap₂, _∙_}
+use mathlib.Core.List.{List, [], _∷_, _++_}
+use mathlib.Core.Logic.{⊎-elim}
+use native.Mathlib.Nat.{not-suc-le-zero, le-of-suc-le-suc, eq-or-lt-of-le}
+use native.Mathlib.Numerals.{add-one}
+use native.Mathlib.Decide.{ℕ-discrete}
+use native.Mathlib.Omega.{arith}
+use borrow.Author.Tests.{ltb-true, ltb-false, lt-ltb, le-ltb}
+use lib.Dec.{ltb}
+use lib.ListN.{length, getD, set, drop, length-set, length-append, length-drop}
+use lib.Seq.{getD-set-same, getD-set-other}
+use Rattle.bits.specs.Bits.{tabulate}
+use Rattle.bits.specs.Loops.{upto, count}
+use Rattle.bits.proofs.Lists.{tabulate-ext, is-table}
+use Rattle.hamming.proofs.Words.{coded-long}
+use Rattle.line.specs.Sizes.{captureLength, words}
+use Rattle.line.specs.Frames.{superOf, elementOf}
+use Rattle.line.specs.Slots.{slotBit}
+use Rattle.line.specs.Words.{symbolPlace, wordAt, symbolAt, laid, symbolOf, wordIn, wordsOf, fecIn}
+use Rattle.line.proofs.WordLaws.{word-at, symbol-at, place-lt, length-laid, length-word, word-laid, laid-ext, laid-words}
+use Rattle.editor.specs.Edit.{listLength, fecOf, crcChange, editedFec, listed, picked, listOf, editedWord, editedCapture}
+use Rattle.editor.specs.Parts.{remade, putSymbol, putWord, mixed, listing, Passing, Turned}
+use Rattle.editor.proofs.Picking.{length-picked, picked-yes, picked-no, picked-set, count-yes, count-no}
+use Rattle.editor.proofs.Listing.{listed-few}
+use Rattle.editor.proofs.Remaking.{word-made}
+
+-- ---- a word put into a capture
+
+module _ (cap : List ℕ) (w : ℕ) (v : List ℕ) where
+  abbrev put : ℕ → List ℕ
+  put k = upto (putSymbol w v) cap k
+
+  put-length : (k : ℕ) → length (put k) ≡ length cap
+  unfolding upto putSymbol
+  put-length zero = refl
+  put-length (suc k) = length-set (put k) (symbolPlace w k) (getD v k 0) ∙ put-length k
+
+  -- a byte of another word stays
+  put-other : (k b : ℕ) → k ≤ 16 → (wordAt b ≡ w → ⊥) → getD (put k) b 0 ≡ getD cap b 0
+  unfolding upto putSymbol
+  put-other zero b h n = refl
+  put-other (suc k) b h n =
+      getD-set-other (put k) (symbolPlace w k) b (getD v k 0) 0 (λ q. n (ap wordAt q ∙ word-at w k (omega arith)))
+      ∙ put-other k b (omega arith) n
+
+  -- the symbols put so far
+  put-here : (k j : ℕ) → k ≤ 16 → j < k → symbolPlace w j < length cap → getD (put k) (symbolPlace w j) 0 ≡ getD v j 0
+  unfolding upto putSymbol
+  put-here zero j h l m = absurd (not-suc-le-zero l)
+  put-here (suc k) j h l m = by (ℕ-discrete j k) (λ n. put-here k j (omega arith) n m)
+    where
+      by : Dec (j ≡ k) → (j < k → getD (put k) (symbolPlace w j) 0 ≡ getD v j 0) → getD (set (put k) (symbolPlace w k) (getD v k 0)) (symbolPlace w j) 0 ≡ getD v j 0
+      by (yes q) r = rw (← q) (getD-set-same (put j) (symbolPlace w j) (getD v j 0) 0 (rw (put-length j) m))
+      by (no n) r =
+          getD-set-other (put k) (symbolPlace w k) (symbolPlace w j) (getD v k 0) 0
+          (λ q. n (sym (symbol-at w j (omega arith)) ∙ ap symbolAt q ∙ symbol-at w k (omega arith)))
+          ∙ r (omega arith)
+
+  pub put-long : length (putWord cap w v) ≡ length cap
+  unfolding putWord
+  put-long = put-length 16
+
+  -- the word itself
+  pub word-put : (N : ℕ) → length cap ≡ captureLength N → w < words N → length v ≡ 16 → wordIn (putWord cap w v) w ≡ v
+  unfolding putWord wordIn
+  word-put N e h len =
+      sym (is-table 0 16 (λ k. getD (put 16) (symbolPlace w k) 0) v len
+      (λ k l. sym (put-here 16 k (omega arith) l (rw e (place-lt N w k h l)))))
+
+  -- every other word
+  pub word-other : (x : ℕ) → (x ≡ w → ⊥) → wordIn (putWord cap w v) x ≡ wordIn cap x
+  unfolding putWord wordIn
+  word-other x n =
+      tabulate-ext 16 (λ k. getD (put 16) (symbolPlace x k) 0) (symbolOf cap x)
+      (λ k l. put-other 16 (symbolPlace x k) (omega arith) (λ q. n (sym (word-at x k l) ∙ q)))
+
+-- ---- the words so far
+
+pub edited-long : (N b : ℕ) (bits parity cap : List ℕ) (x : ℕ) → length (editedWord N b bits parity cap x) ≡ 16
+unfolding editedWord wordsOf
+edited-long N b bits parity cap x = by (listed N b x)
+  where
+    by : (t : Bool) → length (cond t (wordsOf N (editedFec b bits parity (fecIn (wordIn cap))) x) (wordIn cap x)) ≡ 16
+    by true = coded-long (slotBit N (elementOf (superOf (editedFec b bits parity (fecIn (wordIn cap))))) x)
+    by false = length-word cap x
+
+-- a word that is not listed stays
+pub edited-kept : (N b : ℕ) (bits parity cap : List ℕ) (w : ℕ) → listed N b w ≡ false → editedWord N b bits parity cap w ≡ wordIn cap w
+unfolding editedWord
+edited-kept N b bits parity cap w e = rw e
+
+module _ (N b : ℕ) (bits parity cap : List ℕ) where
+  abbrev mix : ℕ → ℕ → List ℕ
+  mix = mixed N b bits parity cap
+
+  mixed-past : (w x : ℕ) → w ≤ x → mix w x ≡ wordIn cap x
+  unfolding mixed
+  mixed-past w x h = rw (le-ltb x w h)
+
+  mixed-done : (w x : ℕ) → x < w → mix w x ≡ editedWord N b bits parity cap x
+  unfolding mixed
+  mixed-done w x h = rw (lt-ltb x w h)
+
+  mixed-long : (w x : ℕ) → length (mix w x) ≡ 16
+  unfolding mixed
+  mixed-long w x = by (ltb x w)
+    where
+      by : (t : Bool) → length (cond t (editedWord N b bits parity cap x) (wordIn cap x)) ≡ 16
+      by true = edited-long N b bits parity cap x
+      by false = length-word cap x
+
+  -- a turn changes no other word
+  mixed-other : (w x : ℕ) → (x ≡ w → ⊥) → mix w x ≡ mix (suc w) x
+  unfolding mixed
+  mixed-other w x n = by (ltb x w) refl
+    where
+      by : (t : Bool) → ltb x w ≡ t → cond t (editedWord N b bits parity cap x) (wordIn cap x) ≡ cond (ltb x (suc w)) (editedWord N b bits parity cap x) (wordIn cap x)
+      by true e = rw (lt-ltb x (suc w) (omega (arith, ltb-true x w e)))
+      by false e = rw (le-ltb x (suc w) (past (ltb-false x w e)))
+        where
+          past : w ≤ x → suc w ≤ x
+          past h = ⊎-elim (λ q. absurd (n (sym q))) (λ l. l) (eq-or-lt-of-le h)
+
+  -- the word of this turn is as it was received
+  mixed-here : (w : ℕ) → w < words N → wordIn (laid N (mix w)) w ≡ wordIn cap w
+  mixed-here w h = word-laid N (mix w) w h (mixed-long w w) ∙ mixed-past w w (omega arith)
+
+  mixed-put : (w : ℕ) (v : List ℕ) → w < words N → v ≡ editedWord N b bits parity cap w → putWord (laid N (mix w)) w v ≡ laid N (mix (suc w))
+  mixed-put w v h e =
+      let s = laid N (mix w) in
+      let len : length v ≡ 16 = ap length e ∙ edited-long N b bits parity cap w in
+      sym (laid-words N (putWord s w v) (put-long s w v ∙ length-laid N (mix w)))
+      ∙ laid-ext N (wordIn (putWord s w v)) (mix (suc w)) (λ x l. by x l (ℕ-discrete x w) len)
+    where
+      by : (x : ℕ) → x < words N → Dec (x ≡ w) → length v ≡ 16 → wordIn (putWord (laid N (mix w)) w v) x ≡ mix (suc w) x
+      by x l (yes q) len = rw q (word-put (laid N (mix w)) w v N (length-laid N (mix w)) h len ∙ e ∙ sym (mixed-done (suc w) w (omega arith)))
+      by x l (no n) len = word-other (laid N (mix w)) w v x n ∙ word-laid N (mix w) x l (mixed-long w x) ∙ mixed-other w x n
+
+  mixed-skip : (w : ℕ) → listed N b w ≡ false → laid N (mix w) ≡ laid N (mix (suc w))
+  mixed-skip w e = laid-ext N (mix w) (mix (suc w)) (λ x l. by x (ℕ-discrete x w))
+    where
+      by : (x : ℕ) → Dec (x ≡ w) → mix w x ≡ mix (suc w) x
+      by x (yes q) = rw q (mixed-past w w (omega arith) ∙ sym (mixed-done (suc w) w (omega arith) ∙ edited-kept N b bits parity cap w e))
+      by x (no n) = mixed-other w x n
+
+-- ---- the list so far
+
+listing-long : (N b : ℕ) (list : List ℕ) (w : ℕ) → length list ≡ listLength → length (listing N b list w) ≡ listLength
+unfolding listing
+listing-long N b list w e =
+    rw (length-append (picked (listed N b) w) (drop (count (listed N b) w) list), length-picked (listed N b) w, length-drop (count (listed N b) w) list)
+    (omega (arith, listed-few N b w))
+
+listing-set : (N b : ℕ) (list : List ℕ) (w : ℕ) → length list ≡ listLength → listed N b w ≡ true → set (listing N b list w) (count (listed N b) w) w ≡ listing N b list (suc w)
+unfolding listing
+listing-set N b list w e h = picked-set (listed N b) w list h (omega (arith, listed-few N b w))
+
+listing-skip : (N b : ℕ) (list : List ℕ) (w : ℕ) → listed N b w ≡ false → listing N b list w ≡ listing N b list (suc w)
+unfolding listing
+listing-skip N b list w h = rw (picked-no (listed N b) w h, count-no (listed N b) w h)
+
+-- ---- the pass
+
+module _ (N b : ℕ) (bits parity cap₀ list₀ : List ℕ) where
+  pub passing-start : length cap₀ ≡ captureLength N → Passing N b bits parity cap₀ list₀ 0 cap₀ list₀ 0
+  unfolding listing picked count
+  passing-start e = record {
+    capture = sym (laid-ext N (mixed N b bits parity cap₀ 0) (wordIn cap₀) (λ x l. mixed-past N b bits parity cap₀ 0 x (omega arith)) ∙ laid-words N cap₀ e);
+    entries = refl;
+    counted = refl;
+  }
+
+  -- the buffers keep their lengths, and there is room for one entry more
+  pub passing-long : {w c : ℕ} {cap list : List ℕ} → Passing N b bits parity cap₀ list₀ w cap list c → length cap ≡ captureLength N
+  passing-long {w} p = rw (p .capture) (length-laid N (mixed N b bits parity cap₀ w))
+
+  pub passing-entries : {w c : ℕ} {cap list : List ℕ} → Passing N b bits parity cap₀ list₀ w cap list c → length list₀ ≡ listLength → length list ≡ listLength
+  passing-entries {w} p e = rw (p .entries) (listing-long N b list₀ w e)
+
+  pub passing-few : {w c : ℕ} {cap list : List ℕ} → Passing N b bits parity cap₀ list₀ w cap list c → c ≤ 142
+  passing-few {w} p = rw (p .counted) (listed-few N b w)
+
+  turn-yes : (w crc c : ℕ) (cap list : List ℕ) → listed N b w ≡ true → Passing N b bits parity cap₀ list₀ w cap list c → w < words N → length list₀ ≡ listLength → crc ≡ crcChange b bits (fecIn (wordIn cap₀) (fecOf b))
+      → Passing N b bits parity cap₀ list₀ (suc w) (putWord cap w (remade b bits parity crc w (wordIn cap w))) (set list c w) (c + 1)
+  turn-yes w crc c cap list t p h e q =
+      let old : wordIn cap w ≡ wordIn cap₀ w = rw (p .capture) (mixed-here N b bits parity cap₀ w h) in
+      let s = laid N (mixed N b bits parity cap₀ w) in
+      let v = remade b bits parity crc w (wordIn cap w) in
+      record {
+        capture = ap (λ (x : List ℕ). putWord x w v) (p .capture) ∙ mixed-put N b bits parity cap₀ w v h (word-made N b bits parity cap₀ w crc (wordIn cap w) t q old);
+        entries = ap₂ (λ (x : List ℕ) (i : ℕ). set x i w) (p .entries) (p .counted) ∙ listing-set N b list₀ w e t;
+        counted = ap (λ (i : ℕ). i + 1) (p .counted) ∙ add-one (count (listed N b) w) ∙ sym (count-yes (listed N b) w t);
+      }
+
+  turn-no : (w c : ℕ) (cap list : List ℕ) → listed N b w ≡ false → Passing N b bits parity cap₀ list₀ w cap list c → Passing N b bits parity cap₀ list₀ (suc w) cap list c
+  turn-no w c cap list t p = record {
+    capture = p .capture ∙ mixed-skip N b bits parity cap₀ w t;
+    entries = p .entries ∙ listing-skip N b list₀ w t;
+    counted = p .counted ∙ sym (count-no (listed N b) w t);
+  }
+
+  -- a turn of the loop
+  pub passing-turn : {w crc c c′ : ℕ} {cap list cap′ list′ : List ℕ} → Passing N b bits parity cap₀ list₀ w cap list c → Turned N b bits parity crc w c cap list cap′ list′ c′
+      → w < words N → length list₀ ≡ listLength → crc ≡ crcChange b bits (fecIn (wordIn cap₀) (fecOf b)) → Passing N b bits parity cap₀ list₀ (w + 1) cap′ list′ c′
+  passing-turn {w} {crc} {c} {c′} {cap} {list} {cap′} {list′} p t h e q =
+      rw (add-one w, t .capture, t .entries, t .counted) (by (listed N b w) refl)
+    where
+      by : (x : Bool) → listed N b w ≡ x → Passing N b bits parity cap₀ list₀ (suc w) (cond x (putWord cap w (remade b bits parity crc w (wordIn cap w))) cap) (cond x (set list c w) list) (cond x (c + 1) c)
+      by true i = turn-yes w crc c cap list i p h e q
+      by false i = turn-no w c cap list i p
+
+  -- where the pass ends
+  pub passing-capture : {c : ℕ} {cap list : List ℕ} → Passing N b bits parity cap₀ list₀ (words N) cap list c → cap ≡ editedCapture N b bits parity cap₀
+  unfolding editedCapture
+  passing-capture p =
+      p .capture ∙ laid-ext N (mixed N b bits parity cap₀ (words N)) (editedWord N b bits parity cap₀) (λ x l. mixed-done N b bits parity cap₀ (words N) x l)
+
+  pub passing-list : {c : ℕ} {cap list : List ℕ} → Passing N b bits parity cap₀ list₀ (words N) cap list c → list ≡ listOf N b ++ drop (count (listed N b) (words N)) list₀
+  unfolding listOf listing
+  passing-list p = p .entries
+
+  -- the loop is over
+  pub passing-end : {w c : ℕ} {cap list : List ℕ} → Passing N b bits parity cap₀ list₀ w cap list c → w ≤ words N → words N ≤ w → Passing N b bits parity cap₀ list₀ (words N) cap list c
+  passing-end {w} p h l = let e : w ≡ words N = omega arith in rw e at p
+
+-- ---- how code makes a turn
+
+module _ (N b : ℕ) (bits parity : List ℕ) (crc w c : ℕ) (cap list : List ℕ) where
+  pub turned-yes : (old v cap′ : List ℕ) → listed N b w ≡ true → old ≡ wordIn cap w → v ≡ remade b bits parity crc w old → cap′ ≡ putWord cap w v
+      → Turned N b bits parity crc w c cap list cap′ (set list c w) (c + 1)
+  turned-yes old v cap′ h p q e =
+      record { capture = rw (h, e, q, p); entries = rw h; counted = rw h }
+
+  pub turned-no : listed N b w ≡ false → Turned N b bits parity crc w c cap list cap list c
+  turned-no h = record { capture = rw h; entries = rw h; counted = rw h }

@@ -1,0 +1,50 @@
+-- `editor::new_element_bit` meets its contract. Assumes nothing.
+use Prim.Native.Nat.{ℕ, _+_, _*_, _%_}
+use mathlib.Core.Path.{ap, _∙_}
+use denote.Ref.{now}
+use Rattle.editor.specs.Edit.{elementLocal}
+use Rattle.editor.specs.Parts.{newBit, newElement}
+use borrow.Author.Needs.{needs}
+use Rattle.editor.proofs.new_element_bit.Statement.{statement}
+use Rattle.editor.proofs.new_element_bit.Tie as tie
+use Rattle.editor.proofs.new_element_bit.Reads as reads
+use Rattle.editor.proofs.new_element_bit.Lts as lts
+use Rattle.bits.proofs.bit_at.Reads as bit-at-reads
+use Rattle.editor.proofs.new_bit.Reads as new-bit-reads
+
+mul-new-bit : tie.Need-mul-new-bit
+mul-new-bit c = search needs
+
+add-new-bit : tie.Need-add-new-bit
+add-new-bit c = search needs
+
+mul-new-bit-2 : tie.Need-mul-new-bit-2
+mul-new-bit-2 c = search needs
+
+add-new-bit-2 : tie.Need-add-new-bit-2
+add-new-bit-2 c = search needs
+
+bit-at-requires : tie.Need-bit-at-requires
+bit-at-requires c κs = search needs
+
+new-bit-requires : tie.Need-new-bit-requires
+new-bit-requires c κs = search needs
+
+returns : tie.Need-returns
+unfolding newElement elementLocal
+returns c =
+    let a = c .before .before .before .before .before .args in
+    c .new-bit .ensures
+    ∙ ap (newBit (a .b) (now (a .bits)) (now (a .parity)) (a .crc) (119 * (a .e % 10976 % 2194) + a .i) (119 * (a .e % 10976) + a .i)) (c .before .bit-at .ensures)
+
+pub new-element-bit-spec : {M : Type 1} → statement M
+new-element-bit-spec =
+    tie.close
+    (tie.spec
+    mul-new-bit
+    add-new-bit
+    mul-new-bit-2
+    add-new-bit-2
+    bit-at-requires
+    new-bit-requires
+    returns)

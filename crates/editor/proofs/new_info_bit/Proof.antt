@@ -1,0 +1,60 @@
+-- `editor::new_info_bit` meets its contract. Assumes nothing.
+use Prim.Native.Nat.{ℕ, _+_, _%_}
+use mathlib.Core.Path.{ap₂, _∙_}
+use denote.Ref.{now}
+use Rattle.editor.specs.Parts.{newInfoBit}
+use Rattle.editor.proofs.Changing.{sequence-bit}
+use Rattle.editor.proofs.Touching.{block-in, block-before, block-past}
+use borrow.Author.Needs.{needs}
+use Rattle.editor.proofs.new_info_bit.Statement.{statement}
+use Rattle.editor.proofs.new_info_bit.Tie as tie
+use Rattle.editor.proofs.new_info_bit.Reads as reads
+use Rattle.editor.proofs.new_info_bit.Lts as lts
+use Rattle.bits.proofs.bit_at.Reads as bit-at-reads
+use Rattle.editor.proofs.add.Reads as add-reads
+
+mul-from : tie.Need-mul-from
+mul-from c = search needs
+
+returns : tie.Need-returns
+unfolding newInfoBit
+returns c = rw (block-before (c .before .before .args .b) (c .before .before .args .p) (c .if1 .taken))
+
+add-if2 : tie.Need-add-if2
+add-if2 c = search needs
+
+returns-2 : tie.Need-returns-2
+unfolding newInfoBit
+returns-2 c = rw (block-past (c .before .before .before .args .b) (c .before .before .before .args .p) (c .if2 .taken))
+
+bit-at-requires : tie.Need-bit-at-requires
+bit-at-requires c κs = search needs
+
+bit-at-requires-2 : tie.Need-bit-at-requires-2
+bit-at-requires-2 c κs = search needs
+
+add-requires : tie.Need-add-requires
+add-requires c κs = search needs
+
+returns-3 : tie.Need-returns-3
+unfolding newInfoBit
+returns-3 c =
+    let t = c .before .before .before .before in
+    let s = t .before .before .before in
+    rw (block-in (s .args .b) (s .args .p) (t .before .if1 .left) (t .if2 .left))
+    (c .add .ensures
+    ∙ ap₂ (λ (x y : ℕ). (x + y) % 2) (c .before .before .before .bit-at .ensures)
+    (c .before .bit-at2 .ensures ∙ sequence-bit (now (s .args .scr)) (s .args .k) (s .pre .0) (s .pre .1)))
+
+pub new-info-bit-spec : {M : Type 1} → statement M
+new-info-bit-spec =
+    tie.close
+    (tie.spec
+    mul-from
+    returns
+    add-if2
+    returns-2
+    bit-at-requires
+    bit-at-requires-2
+    add-requires
+    returns-3)

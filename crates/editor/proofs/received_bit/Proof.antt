@@ -1,0 +1,71 @@
+-- `editor::received_bit` meets its contract. Assumes nothing.
+use Prim.Native.Nat.{ℕ, _+_, _*_, _/_, _%_}
+use mathlib.Core.Path.{refl, ap, ap₂, _∙_}
+use native.Mathlib.Omega.{arith}
+use denote.Ref.{now}
+use Rattle.bits.specs.Bits.{bitAt}
+use Rattle.line.specs.Words.{wordIn}
+use Rattle.line.proofs.SlotLaws.{slot-lt}
+use Rattle.editor.proofs.Changing.{sequence-bit, received}
+use borrow.Author.Needs.{needs}
+use Rattle.editor.proofs.received_bit.Statement.{statement}
+use Rattle.editor.proofs.received_bit.Tie as tie
+use Rattle.editor.proofs.received_bit.Reads as reads
+use Rattle.editor.proofs.received_bit.Lts as lts
+use Rattle.bits.proofs.bit_at.Reads as bit-at-reads
+use Rattle.editor.proofs.add.Reads as add-reads
+use Rattle.editor.proofs.slot.Reads as slot-reads
+use Rattle.editor.proofs.word_bit.Reads as word-bit-reads
+
+mul-k : tie.Need-mul-k
+mul-k c = search needs
+
+add-k : tie.Need-add-k
+add-k c = search needs
+
+mul-slot : tie.Need-mul-slot
+mul-slot c = search needs
+
+add-slot : tie.Need-add-slot
+add-slot c = search needs
+
+slot-requires : tie.Need-slot-requires
+slot-requires c κs = search needs
+
+word-bit-requires : tie.Need-word-bit-requires
+word-bit-requires c κs =
+    let a = c .before .before .args in
+    let k = 261086 * (a .t % 5) + a .i in
+    (omega (arith, c .slot .ensures, slot-lt 8 (10976 * (a .t / 5) + k / 119) (omega arith)), omega arith)
+
+bit-at-requires : tie.Need-bit-at-requires
+bit-at-requires c κs = search needs
+
+add-requires : tie.Need-add-requires
+add-requires c κs = search needs
+
+returns : tie.Need-returns
+returns c =
+    let w = c .before .before .before in
+    let s = w .before .before .before in
+    let a = s .args in
+    let k = 261086 * (a .t % 5) + a .i in
+    c .add .ensures
+    ∙ ap₂ (λ (x y : ℕ). (x + y) % 2)
+    (w .word-bit .ensures ∙ ap (λ (x : ℕ). bitAt (wordIn (now (a .capture)) x) (k % 119)) (w .before .slot .ensures))
+    (c .before .bit-at .ensures ∙ sequence-bit (now (a .scr)) k (s .pre .0) (omega arith))
+    ∙ received (wordIn (now (a .capture))) (a .t) (a .i) k (10976 * (a .t / 5) + k / 119) refl refl
+
+pub received-bit-spec : {M : Type 1} → statement M
+received-bit-spec =
+    tie.close
+    (tie.spec
+    mul-k
+    add-k
+    mul-slot
+    add-slot
+    slot-requires
+    word-bit-requires
+    bit-at-requires
+    add-requires
+    returns)

@@ -1,0 +1,59 @@
+-- `editor::replace` meets its contract. Assumes nothing.
+use native.Mathlib.Omega.{arith}
+use Rattle.scrambler.specs.Scrambler.{o}
+use Rattle.editor.specs.Parts.{Lent}
+use borrow.Author.Needs.{needs}
+use Rattle.editor.proofs.replace.Statement.{statement}
+use Rattle.editor.proofs.replace.Tie as tie
+use Rattle.editor.proofs.replace.Reads as reads
+use Rattle.editor.proofs.replace.Lts as lts
+use Rattle.editor.proofs.crc_change.Reads as crc-change-reads
+use Rattle.editor.proofs.rewrite.Reads as rewrite-reads
+use Rattle.hamming.proofs.tail_table.Reads as tail-table-reads
+use Rattle.scrambler.proofs.fill.Reads as fill-reads
+
+slice-aggregate-fill : tie.Need-slice-aggregate-fill
+slice-aggregate-fill c = search needs
+
+fill-requires : tie.Need-fill-requires
+fill-requires c κs = search needs
+
+tail-table-requires : tie.Need-tail-table-requires
+tail-table-requires c κs = search needs
+
+crc-change-requires : tie.Need-crc-change-requires
+crc-change-requires c κs = (search needs, omega arith)
+
+rewrite-requires : tie.Need-rewrite-requires
+rewrite-requires c κs =
+    let k = c .before .before .before .before in
+    let t = k .before .before .before in
+    let s = t .before .before .before .before .before .before .before .before in (
+      record { sequence = search needs; checks = s .pre .0; closing = t .tail-table .ensures },
+      s .pre .1 .few,
+      k .crc-change .ensures,
+      s .pre .1 .capture-long,
+      s .pre .1 .list-long,
+    )
+
+same-length : tie.Need-same-length
+same-length c = search needs
+
+same-length-2 : tie.Need-same-length-2
+same-length-2 c = search needs
+
+returns : tie.Need-returns
+returns c = search needs
+
+pub replace-spec : {M : Type 1} → statement M
+replace-spec =
+    tie.close
+    (tie.spec
+    slice-aggregate-fill
+    fill-requires
+    tail-table-requires
+    crc-change-requires
+    rewrite-requires
+    same-length
+    same-length-2
+    returns)

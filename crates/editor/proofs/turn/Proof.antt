@@ -1,0 +1,79 @@
+-- `editor::turn` meets its contract. Assumes nothing.
+use mathlib.Core.Path.{sym, _∙_}
+use native.Mathlib.Omega.{arith}
+use denote.Ref.{now}
+use Rattle.line.proofs.WordLaws.{place-lt}
+use Rattle.editor.proofs.Listing.{listed-holding}
+use Rattle.editor.proofs.Passes.{turned-yes, turned-no}
+use borrow.Author.Needs.{needs}
+use Rattle.editor.proofs.turn.Statement.{statement}
+use Rattle.editor.proofs.turn.Tie as tie
+use Rattle.editor.proofs.turn.Reads as reads
+use Rattle.editor.proofs.turn.Lts as lts
+use Rattle.editor.proofs.is_listed.Reads as is-listed-reads
+use Rattle.editor.proofs.new_word.Reads as new-word-reads
+use Rattle.editor.proofs.put_word.Reads as put-word-reads
+use Rattle.line.proofs.word_in.Reads as word-in-reads
+
+is-listed-requires : tie.Need-is-listed-requires
+is-listed-requires c κs = search needs
+
+word-in-requires : tie.Need-word-in-requires
+word-in-requires c κs = search needs
+
+new-word-requires : tie.Need-new-word-requires
+new-word-requires c κs =
+    let l = c .before .before .before in
+    let s = l .before .before .before .before .before in
+    (s .pre .0, listed-holding (s .args .n) (s .args .b) (s .args .w) (sym (l .is-listed .ensures) ∙ c .before .before .if1 .taken) .no-pad)
+
+put-word-requires : tie.Need-put-word-requires
+put-word-requires c κs =
+    let s = c .before .before .before .before .before .before .before .before .before .before in
+    (omega arith, omega (arith, place-lt (s .args .n) (s .args .w) 15 (s .pre .2) (omega arith)))
+
+mul-list : tie.Need-mul-list
+mul-list c = search needs
+
+slice-write-list : tie.Need-slice-write-list
+slice-write-list c = search needs
+
+add-result : tie.Need-add-result
+add-result c = search needs
+
+same-length : tie.Need-same-length
+same-length c = search needs
+
+same-length-2 : tie.Need-same-length-2
+same-length-2 c = search needs
+
+returns : tie.Need-returns
+returns c =
+    let p = c .before .before in
+    let v = p .before .before in
+    let i = v .before .before .before in
+    let s = i .before .before .before .before .before .before in
+    let a = s .args in
+    turned-yes (a .n) (a .b) (now (a .bits)) (now (a .parity)) (a .crc) (a .w) (a .c) (now (a .capture)) (now (a .list)) (v .before .word-in .result) (v .new-word .result) _
+    (sym (i .before .is-listed .ensures) ∙ i .if1 .taken) (v .before .word-in .ensures) (v .new-word .ensures) (p .put-word .ensures)
+
+returns-2 : tie.Need-returns-2
+returns-2 c =
+    let a = c .before .before .before .before .before .before .args in
+    turned-no (a .n) (a .b) (now (a .bits)) (now (a .parity)) (a .crc) (a .w) (a .c) (now (a .capture)) (now (a .list)) (sym (c .before .is-listed .ensures) ∙ c .if1 .left)
+
+pub turn-spec : {M : Type 1} → statement M
+turn-spec =
+    tie.close
+    (tie.spec
+    is-listed-requires
+    word-in-requires
+    new-word-requires
+    put-word-requires
+    mul-list
+    slice-write-list
+    add-result
+    same-length
+    same-length-2
+    returns
+    returns-2)

@@ -1,0 +1,106 @@
+-- The steps of an edit as the code takes them: the tests in their order, a word made anew from its received bytes, a word put back into
+-- the capture, and how far a pass has come. Assumes nothing: these are definitions.
+use Prim.Native.Nat.{ℕ, suc, _+_, _-_, _*_, _/_, _%_, _≤_, _<_}
+use mathlib.Core.Bool.{Bool, true, false, cond, not}
+use mathlib.Core.Path.{_≡_}
+use mathlib.Core.List.{List, _++_}
+use lib.Dec.{ltb, leb, eqb}
+use lib.ListN.{length, getD, set, drop}
+use Rattle.bits.specs.Bits.{digit, bitAt, pack}
+use Rattle.bits.specs.Loops.{upto, count}
+use Rattle.answer.specs.Numbers.{outsideSet, wrongLength}
+use Rattle.answer.specs.Rows.{done, refused, bufferPlace}
+use Rattle.answer.specs.declared.Answer.{Answer}
+use Rattle.scrambler.specs.Scrambler.{o, frameBytes}
+use Rattle.hamming.specs.Code.{coded}
+use Rattle.hamming.specs.Lent.{byteTable, tailTable}
+use Rattle.line.specs.Sizes.{crcBits, parityFrom, parityBytes, elementBits, superElements, captureLength}
+use Rattle.line.specs.Fec.{fields}
+use Rattle.line.specs.Slots.{elementIn}
+use Rattle.line.specs.Words.{symbolPlace, laid, wordIn}
+use Rattle.editor.specs.Edit.{blocksOf, blockBytes, listLength, inBlock, blockFrom, elementLocal, listed, picked, editedWord, spareSet}
+
+-- ---- numbers 1 and 2, from the numbers and the four lengths alone
+
+unfoldable pub judged : ℕ → ℕ → ℕ → ℕ → ℕ → ℕ → Answer
+judged N b bits parity cap list =
+    cond (ltb N 1) (refused outsideSet 0)
+    (cond (ltb 8 N) (refused outsideSet 0)
+    (cond (leb (blocksOf N) b) (refused outsideSet 0)
+    (cond (not (eqb bits blockBytes)) (refused wrongLength (bufferPlace 1))
+    (cond (not (eqb parity parityBytes)) (refused wrongLength (bufferPlace 2))
+    (cond (not (eqb cap (captureLength N))) (refused wrongLength (bufferPlace 3))
+    (cond (not (eqb list listLength)) (refused wrongLength (bufferPlace 4))
+    (done 0)))))))
+
+-- what a call has shown that none of the numbers 1 to 3 refuses
+pub record Accepted (N b : ℕ) (bits parity cap list : List ℕ) : Type 0 where
+  pub some : 1 ≤ N
+  pub few : N ≤ 8
+  pub block : b < blocksOf N
+  pub bits-long : length bits ≡ blockBytes
+  pub parity-long : length parity ≡ parityBytes
+  pub capture-long : length cap ≡ captureLength N
+  pub list-long : length list ≡ listLength
+  pub no-spare : spareSet bits ≡ false
+
+-- ---- a word made anew
+
+-- the bit at place p of the edited FEC block and place k of the super frame, scrambled, where x was received there and crc is the change
+-- of the CRC: new bits are scrambled anew, and what stays is as it was received
+unfoldable pub newInfoBit : ℕ → List ℕ → ℕ → ℕ → ℕ → ℕ
+newInfoBit b bits p k x = cond (inBlock b p) ((bitAt bits (p - blockFrom b) + o k) % 2) x
+
+unfoldable pub newBit : ℕ → List ℕ → List ℕ → ℕ → ℕ → ℕ → ℕ → ℕ
+newBit b bits parity crc p k x =
+    fields (λ j. newInfoBit b bits j k x) (λ j. (x + digit crcBits crc j) % 2) (λ j. x) (λ j. (bitAt parity j + o k) % 2) p
+
+-- bit i of element e, of the received word old
+unfoldable pub newElement : ℕ → List ℕ → List ℕ → ℕ → ℕ → List ℕ → ℕ → ℕ
+newElement b bits parity crc e old i =
+    newBit b bits parity crc (elementBits * elementLocal e + i) (elementBits * (e % superElements) + i) (bitAt old i)
+
+-- bit i of element e where the element is all parity
+unfoldable pub parityElement : List ℕ → ℕ → ℕ → ℕ
+parityElement parity e i = (bitAt parity (elementBits * elementLocal e - parityFrom + i) + o (elementBits * (e % superElements) + i)) % 2
+
+-- word w, check bits and all
+unfoldable pub remade : ℕ → List ℕ → List ℕ → ℕ → ℕ → List ℕ → List ℕ
+remade b bits parity crc w old = coded (newElement b bits parity crc (elementIn w) old)
+
+-- ---- a word put into a capture, symbol by symbol
+
+unfoldable pub putSymbol : ℕ → List ℕ → ℕ → List ℕ → List ℕ
+putSymbol w v k cap = set cap (symbolPlace w k) (getD v k 0)
+
+unfoldable pub putWord : List ℕ → ℕ → List ℕ → List ℕ
+putWord cap w v = upto (putSymbol w v) cap 16
+
+-- ---- what is made once and lent: the scrambler's sequence and the code's two tables
+
+pub record Lent (scr t tails : List ℕ) : Type 0 where
+  pub sequence : scr ≡ pack frameBytes o
+  pub checks : t ≡ byteTable
+  pub closing : tails ≡ tailTable
+
+-- ---- the pass over the words: those below w are done
+
+-- the words of the capture so far
+unfoldable pub mixed : ℕ → ℕ → List ℕ → List ℕ → List ℕ → ℕ → ℕ → List ℕ
+mixed N b bits parity cap w x = cond (ltb x w) (editedWord N b bits parity cap x) (wordIn cap x)
+
+-- the list so far: the words listed, and the entries that are not written yet
+unfoldable pub listing : ℕ → ℕ → List ℕ → ℕ → List ℕ
+listing N b list w = picked (listed N b) w ++ drop (count (listed N b) w) list
+
+-- capture, list and count after the words below w, from the capture cap₀ and the list list₀
+pub record Passing (N b : ℕ) (bits parity cap₀ list₀ : List ℕ) (w : ℕ) (cap list : List ℕ) (c : ℕ) : Type 0 where
+  pub capture : cap ≡ laid N (mixed N b bits parity cap₀ w)
+  pub entries : list ≡ listing N b list₀ w
+  pub counted : c ≡ count (listed N b) w
+
+-- one turn of the pass: a listed word is made anew and listed; at any other nothing is done
+pub record Turned (N b : ℕ) (bits parity : List ℕ) (crc w c : ℕ) (cap list cap′ list′ : List ℕ) (c′ : ℕ) : Type 0 where
+  pub capture : cap′ ≡ cond (listed N b w) (putWord cap w (remade b bits parity crc w (wordIn cap w))) cap
+  pub entries : list′ ≡ cond (listed N b w) (set list c w) list
+  pub counted : c′ ≡ cond (listed N b w) (c + 1) c
