@@ -1,0 +1,6 @@
+-- The laws of `specs/`.
+pub mod Searching
+pub mod Judging
+pub mod Places
+pub mod Blocks
+pub mod Exactly
