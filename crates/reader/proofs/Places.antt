@@ -5,11 +5,12 @@ use mathlib.Core.List.{List}
 use native.Mathlib.Nat.{zero-add}
 use native.Mathlib.Omega.{arith}
 use lib.Bits.{bitXor}
-use lib.ListN.{length, getD, take, drop}
+use borrow.Rule.Slice.PartMut.{putMid}
+use lib.ListN.{length, getD, take, drop, length-take, length-drop}
 use lib.Seq.{getD-take, getD-drop}
 use Rattle.bits.specs.Bits.{tabulate, num, digit, bitAt, byteOf, pack, from, added, Bits}
 use Rattle.bits.proofs.Common.{by-bound}
-use Rattle.bits.proofs.Lists.{getD-tabulate, tabulate-ext}
+use Rattle.bits.proofs.Lists.{getD-tabulate, tabulate-ext, Filled, filled-block}
 use Rattle.bits.proofs.Numbers.{num-ext, digit-num}
 use Rattle.bits.proofs.Packing.{bitOf-lt, bitOf-packs}
 use Rattle.bits.proofs.Xor.{num-xor}
@@ -17,7 +18,7 @@ use Rattle.scrambler.specs.Scrambler.{o}
 use Rattle.scrambler.proofs.Rule.{o-lt}
 use Rattle.hamming.specs.Code.{joined}
 use Rattle.hamming.proofs.Words.{joined-low, joined-high, joined-bit}
-use Rattle.line.specs.Sizes.{infoBits, parityBits, parityFrom, fecBits, fecBlocks, superBits, superBytes, elementBits, superElements, infoLength, parityLength}
+use Rattle.line.specs.Sizes.{infoBits, parityBits, parityFrom, fecBits, infoBytes, parityBytes, fecBlocks, superBits, superBytes, superElements}
 use Rattle.line.specs.Frames.{superFrom, fecFrom}
 use Rattle.line.specs.Slots.{slotOf}
 use Rattle.line.specs.Words.{elementFrom, superIn, fecIn}
@@ -89,18 +90,16 @@ module _ (W : ℕ → List ℕ) (f l : ℕ) where
       let s : 8 * (15 * l - l / 8 + k) + j - 119 * l ≡ 8 * k + l % 8 + j = omega arith in
       ap₂ (λ (x y : ℕ). (bitAt pair x + o y) % 2) s q ∙ sym (super-bit (8 * k + l % 8 + j) (omega arith)) ∙ ap (superIn W f) (sym q))
 
--- the bytes that begin in element l, as the code makes them out of its word and the next one's
-pub element-bytes : (cap scr v : List ℕ) (f l n : ℕ) → scr ≡ sequence → v ≡ pair (repaired cap) f l → l < superElements → n ≡ startOf (l + 1) - startOf l
-    → tabulate n (plainByte v (l % 8) (take n (drop (startOf l) scr))) ≡ tabulate n (λ k. byteOf (superIn (repaired cap) f) (startOf l + k))
+-- byte k of those that begin in element l, as the code makes it out of the element's word and the next one's
+pub element-byte : (cap scr v : List ℕ) (f l n k : ℕ) → scr ≡ sequence → v ≡ pair (repaired cap) f l → l < superElements → n ≡ startOf (l + 1) - startOf l → k < n
+    → plainByte v (l % 8) (take n (drop (startOf l) scr)) k ≡ byteOf (superIn (repaired cap) f) (startOf l + k)
 unfolding plainByte
-element-bytes cap scr v f l n es ev hl en =
-    tabulate-ext n (plainByte v (l % 8) (take n (drop (startOf l) scr))) (λ k. byteOf (superIn (repaired cap) f) (startOf l + k))
-    (λ k h.
+element-byte cap scr v f l n k es ev hl en h =
     ap₂ bitXor (ap (λ (s : List ℕ). num 8 (bitAt s) (8 * k + l % 8)) ev)
     (getD-take n (drop (startOf l) scr) k 0 h ∙ getD-drop (startOf l) scr k 0
     ∙ ap (λ (s : List ℕ). getD s (startOf l + k) 0) es
     ∙ getD-tabulate 0 superBytes (byteOf o) (startOf l + k) (omega arith))
-    ∙ plain-byte (repaired cap) f l k (omega arith))
+    ∙ plain-byte (repaired cap) f l k (omega arith)
 
 -- ---- FEC blocks in a super frame
 
@@ -119,26 +118,24 @@ frame-fec cap f b i h l = frame-bit cap f (fecBits * b + i) (omega arith) ∙ sy
 
 -- ---- information and parity
 
--- of block b, out of a super frame
-pub info-block : (s : List ℕ) (b : ℕ) → pack 30583 (from (bitAt s) (261086 * b)) ≡ tabulate 30583 (λ k. byteOf (infoIn s) (30583 * b + k))
+-- byte k of block b's, out of a super frame
+pub info-byte : (s : List ℕ) (b k : ℕ) → k < infoBytes → byteOf (from (bitAt s) (261086 * b)) k ≡ byteOf (infoIn s) (30583 * b + k)
 unfolding infoIn
-info-block s b =
-    tabulate-ext 30583 (byteOf (from (bitAt s) (261086 * b))) (λ k. byteOf (infoIn s) (30583 * b + k))
-    (λ k h. num-ext 8 (from (bitAt s) (261086 * b)) (infoIn s) (8 * k) (8 * (30583 * b + k))
+info-byte s b k h =
+    num-ext 8 (from (bitAt s) (261086 * b)) (infoIn s) (8 * k) (8 * (30583 * b + k))
     (λ j m.
     let p : (8 * (30583 * b + k) + j) / 244664 ≡ b = omega arith in
     let q : (8 * (30583 * b + k) + j) % 244664 ≡ 8 * k + j = omega arith in
-    rw (p, q)))
+    rw (p, q))
 
-pub parity-block : (s : List ℕ) (b : ℕ) → pack 2048 (from (bitAt s) (261086 * b + 244702)) ≡ tabulate 2048 (λ k. byteOf (parityIn s) (2048 * b + k))
+pub parity-byte : (s : List ℕ) (b k : ℕ) → k < parityBytes → byteOf (from (bitAt s) (261086 * b + 244702)) k ≡ byteOf (parityIn s) (2048 * b + k)
 unfolding parityIn
-parity-block s b =
-    tabulate-ext 2048 (byteOf (from (bitAt s) (261086 * b + 244702))) (λ k. byteOf (parityIn s) (2048 * b + k))
-    (λ k h. num-ext 8 (from (bitAt s) (261086 * b + 244702)) (parityIn s) (8 * k) (8 * (2048 * b + k))
+parity-byte s b k h =
+    num-ext 8 (from (bitAt s) (261086 * b + 244702)) (parityIn s) (8 * k) (8 * (2048 * b + k))
     (λ j m.
     let p : (8 * (2048 * b + k) + j) / 16384 ≡ b = omega arith in
     let q : (8 * (2048 * b + k) + j) % 16384 ≡ 8 * k + j = omega arith in
-    rw (p, q) (ap (bitAt s) (omega arith))))
+    rw (p, q) (ap (bitAt s) (omega arith)))
 
 -- bit j of the information, and of the parity, of FEC blocks with the bits F
 abbrev pub infoAll : (ℕ → ℕ → ℕ) → ℕ → ℕ
@@ -147,25 +144,36 @@ infoAll F j = F (j / infoBits) (j % infoBits)
 abbrev pub parityAll : (ℕ → ℕ → ℕ) → ℕ → ℕ
 parityAll F j = F (j / parityBits) (parityFrom + j % parityBits)
 
--- of super frame f, in the whole
-pub info-frame : (cap : List ℕ) (f : ℕ) → pack (infoLength 1) (infoIn (frameOf cap f)) ≡ tabulate (infoLength 1) (λ k. byteOf (infoAll (fecIn (repaired cap))) (152915 * f + k))
+-- byte k of super frame f's, in the whole
+pub info-whole : (cap s : List ℕ) (f k : ℕ) → s ≡ frameOf cap f → k < 152915 → byteOf (infoIn s) k ≡ byteOf (infoAll (fecIn (repaired cap))) (152915 * f + k)
 unfolding infoIn
-info-frame cap f =
-    tabulate-ext (infoLength 1) (byteOf (infoIn (frameOf cap f))) (λ k. byteOf (infoAll (fecIn (repaired cap))) (152915 * f + k))
-    (λ k h. num-ext 8 (infoIn (frameOf cap f)) (infoAll (fecIn (repaired cap))) (8 * k) (8 * (152915 * f + k))
+info-whole cap s f k e h =
+    ap (λ (l : List ℕ). byteOf (infoIn l) k) e
+    ∙ num-ext 8 (infoIn (frameOf cap f)) (infoAll (fecIn (repaired cap))) (8 * k) (8 * (152915 * f + k))
     (λ j m.
     let p : (8 * (152915 * f + k) + j) / 244664 ≡ 5 * f + (8 * k + j) / 244664 = omega arith in
     let q : (8 * (152915 * f + k) + j) % 244664 ≡ (8 * k + j) % 244664 = omega arith in
     frame-fec cap f ((8 * k + j) / 244664) ((8 * k + j) % 244664) (omega arith) (omega arith)
-    ∙ sym (ap₂ (fecIn (repaired cap)) p q)))
+    ∙ sym (ap₂ (fecIn (repaired cap)) p q))
 
-pub parity-frame : (cap : List ℕ) (f : ℕ) → pack (parityLength 1) (parityIn (frameOf cap f)) ≡ tabulate (parityLength 1) (λ k. byteOf (parityAll (fecIn (repaired cap))) (10240 * f + k))
+pub parity-whole : (cap s : List ℕ) (f k : ℕ) → s ≡ frameOf cap f → k < 10240 → byteOf (parityIn s) k ≡ byteOf (parityAll (fecIn (repaired cap))) (10240 * f + k)
 unfolding parityIn
-parity-frame cap f =
-    tabulate-ext (parityLength 1) (byteOf (parityIn (frameOf cap f))) (λ k. byteOf (parityAll (fecIn (repaired cap))) (10240 * f + k))
-    (λ k h. num-ext 8 (parityIn (frameOf cap f)) (parityAll (fecIn (repaired cap))) (8 * k) (8 * (10240 * f + k))
+parity-whole cap s f k e h =
+    ap (λ (l : List ℕ). byteOf (parityIn l) k) e
+    ∙ num-ext 8 (parityIn (frameOf cap f)) (parityAll (fecIn (repaired cap))) (8 * k) (8 * (10240 * f + k))
     (λ j m.
     let p : (8 * (10240 * f + k) + j) / 16384 ≡ 5 * f + (8 * k + j) / 16384 = omega arith in
     let q : (8 * (10240 * f + k) + j) % 16384 ≡ (8 * k + j) % 16384 = omega arith in
     frame-fec cap f ((8 * k + j) / 16384) (244702 + (8 * k + j) % 16384) (omega arith) (omega arith)
-    ∙ sym (ap₂ (λ (x y : ℕ). fecIn (repaired cap) x (parityFrom + y)) p q)))
+    ∙ sym (ap₂ (λ (x y : ℕ). fecIn (repaired cap) x (parityFrom + y)) p q))
+
+-- ---- a part that a callee filled
+
+pub part-long : (a k : ℕ) (s : List ℕ) → a + k ≤ length s → length (take k (drop a s)) ≡ k
+part-long a k s h = simp (length-take, length-drop) (omega arith)
+
+-- the callee's m elements are h, which is f from a on
+pub filled-part : {a : ℕ} {f : ℕ → ℕ} {d out : List ℕ} (k e : ℕ) {ys : List ℕ} (m : ℕ) (h : ℕ → ℕ) → Filled a f d out → e ≡ a + k → e ≤ length d → m ≡ k → ys ≡ tabulate m h
+    → ((j : ℕ) → j < k → h j ≡ f (a + j)) → Filled e f d (putMid a k out ys)
+filled-part {a} {f} k e m h i p l q y each =
+    filled-block k e i p l (y ∙ ap (λ (n : ℕ). tabulate n h) q ∙ tabulate-ext k h (λ j. f (a + j)) each)

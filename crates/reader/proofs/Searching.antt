@@ -5,7 +5,7 @@ use mathlib.Core.Path.{_≡_, refl, sym, ap, _∙_}
 use mathlib.Core.List.{List, [], _∷_}
 use native.Mathlib.Nat.{not-suc-le-zero, le-of-suc-le-suc}
 use native.Mathlib.Omega.{arith}
-use borrow.Author.Tests.{lt-ltb, le-ltb, eq-eqb, ne-eqb}
+use borrow.Author.Tests.{lt-ltb, le-ltb, eq-eqb, ne-eqb, eqb-true, not-false}
 use lib.Dec.{ltb, eqb}
 use lib.ListN.{length, getD}
 use Rattle.bits.specs.Loops.{first, count}
@@ -16,9 +16,10 @@ use Rattle.hamming.specs.declared.Repaired.{Repaired}
 use Rattle.hamming.specs.declared.Found.the-variants.{Clean, Turned, Beyond}
 use Rattle.hamming.specs.Code.{checksOf, turn}
 use Rattle.hamming.specs.Columns.{positionOf}
-use Rattle.hamming.specs.Repair.{answer, repairAt, repairOf}
+use Rattle.hamming.specs.Repair.{answer, repairAt, repairOf, numberOf}
+use Rattle.line.specs.Slots.{holds}
 use Rattle.line.specs.Words.{wordIn}
-use Rattle.reader.specs.Read.{allZero, isBeyond, isFilled, isSeen}
+use Rattle.reader.specs.Read.{repaired, allZero, isBeyond, isFilled, isSeen}
 use Rattle.reader.specs.Parts.{soughtOf, found, wordsTo}
 use Rattle.reader.specs.declared.WordTally.{WordTally}
 
@@ -71,9 +72,21 @@ found-seen : (w : List ℕ) → found (repairOf w .found) ≡ not (eqb (checksOf
 unfolding repairOf repairAt
 found-seen w = by-tests w (turn w (positionOf (checksOf w))) (positionOf (checksOf w)) (eqb (checksOf w) 0) (ltb (positionOf (checksOf w)) 128)
 
-pub seen-is : (cap : List ℕ) (w : ℕ) → found (repairOf (wordIn cap w) .found) ≡ isSeen cap w
+seen-is : (cap : List ℕ) (w : ℕ) → found (repairOf (wordIn cap w) .found) ≡ isSeen cap w
 unfolding isSeen
 seen-is cap w = found-seen (wordIn cap w)
+
+-- the same three of a repair that the code has made
+pub beyond-is : (cap : List ℕ) (w : ℕ) (r : Repaired) (k : ℕ) → r ≡ repairOf (wordIn cap w) → k ≡ numberOf (r .found) → eqb k 4 ≡ isBeyond cap w
+unfolding isBeyond
+beyond-is cap w r k e h = ap (λ (x : ℕ). eqb x 4) h ∙ ap (λ (x : Repaired). eqb (numberOf (x .found)) 4) e
+
+pub filled-is : (N : ℕ) (cap : List ℕ) (w : ℕ) (r : Repaired) → r ≡ repairOf (wordIn cap w) → not (holds N w) && not (allZero (r .word)) ≡ isFilled N cap w
+unfolding isFilled repaired
+filled-is N cap w r e = ap (λ (x : Repaired). not (holds N w) && not (allZero (x .word))) e
+
+pub seen-as : (cap : List ℕ) (w : ℕ) (r : Repaired) → r ≡ repairOf (wordIn cap w) → found (r .found) ≡ isSeen cap w
+seen-as cap w r e = ap (λ (x : Repaired). found (x .found)) e ∙ seen-is cap w
 
 -- word w is taken in
 pub word-more : (N : ℕ) (cap : List ℕ) (w : ℕ) (s : WordTally) (b f c : ℕ) → s ≡ wordsTo N cap w
@@ -110,3 +123,16 @@ zero-not (x ∷ s) (suc k) l h = rw (← zero-not s k (le-of-suc-le-suc l) h) (n
     nothing : (b : Bool) → false ≡ b && false
     nothing true = refl
     nothing false = refl
+
+-- byte k is not zero
+unfoldable pub someAt : List ℕ → ℕ → Bool
+someAt s k = not (eqb (getD s k 0) 0)
+
+pub some-none : (s : List ℕ) (k : ℕ) → getD s k 0 ≡ 0 → someAt s k ≡ false
+unfolding someAt
+some-none s k e = rw (eq-eqb (getD s k 0) 0 e)
+
+pub some-all : (s : List ℕ) {k : ℕ} → length s ≡ 16 → Passed k (someAt s) 16 → 16 ≤ k → true ≡ allZero s
+unfolding someAt
+some-all s {k} len p l =
+    zero-all s (λ i h. eqb-true (getD s i 0) 0 (not-false (eqb (getD s i 0) 0) (p .none i (omega arith))))

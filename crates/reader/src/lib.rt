@@ -52,7 +52,7 @@ pub fn read(n: u64, m0: u64, capture: &[u8], info: &mut [u8], parity: &mut [u8])
         parity.len() as u64,
     );
     if r.number == 0 {
-        read_words(n as usize, m0, capture, info, parity)
+        read_accepted(n as usize, m0, capture, info, parity)
     } else {
         r
     }
@@ -62,7 +62,7 @@ pub fn read(n: u64, m0: u64, capture: &[u8], info: &mut [u8], parity: &mut [u8])
 fn judge(n: u64, m0: u64, capture_len: u64, info_len: u64, parity_len: u64) -> Answer
     ensures { λ r. ⌜ r ≡ judged n m0 «capture_len» «info_len» «parity_len» (done 0) ⌝ }
 {
-    if !in_sets(n, m0) {
+    if is_outside(n, m0) {
         return answer::refuse(answer::OUTSIDE_SET, 0);
     }
     if capture_len != 175616 * n + 7680 {
@@ -77,34 +77,66 @@ fn judge(n: u64, m0: u64, capture_len: u64, info_len: u64, parity_len: u64) -> A
     answer::granted(0)
 }
 
-// n is 1..8, and m0 may be counted from.
-fn in_sets(n: u64, m0: u64) -> bool
-    ensures { λ r. ⌜ r ≡ (superAllowed n && mbasAllowed m0) ⌝ }
+// n is not in 1..8, or m0 may not be counted from.
+fn is_outside(n: u64, m0: u64) -> bool
+    ensures { λ r. ⌜ r ≡ not (superAllowed n && mbasAllowed m0) ⌝ }
 {
     if n < 1 {
-        return false;
+        return true;
     }
     if 8 < n {
-        return false;
+        return true;
     }
-    line::mbas_allowed(m0)
+    !line::mbas_allowed(m0)
 }
 
-// Both passes, and the writing where nothing is wrong.
-fn read_words(n: usize, m0: u64, capture: &[u8], info: &mut [u8], parity: &mut [u8]) -> Answer
+// The numbers and lengths are right. Tables are made once and lent; a constant one would be copied at every use.
+fn read_accepted(n: usize, m0: u64, capture: &[u8], info: &mut [u8], parity: &mut [u8]) -> Answer
     requires { ⌜ Accepted n (now capture) (now info) (now parity) ⌝ }
     ensures { λ r. ⌜ Outcome (lateAnswer n m0 (now (capture .entry))) (lateLeaves n m0 (now (capture .entry)) (now (info .entry)) (now (parity .entry))) r (now (info .exit), now (parity .exit)) ⌝ }
 {
     let t = hamming::byte_table();
     let positions = hamming::position_table();
-    let mut scr = [0u8; 163268];
-    scrambler::fill(&mut scr);
-    let mut frame = [0u8; 163268];
-    let w = tally_words(&t, &positions, n, capture);
-    let b = tally_frames(&t, &positions, &scr, n, m0, capture, &mut frame);
+    let scr = scrambler::sequence();
+    let mut buffer = blank();
+    read_by(
+        &t,
+        &positions,
+        &scr,
+        n,
+        m0,
+        capture,
+        &mut buffer,
+        info,
+        parity,
+    )
+}
+
+// A place for the bytes of one super frame.
+fn blank() -> [u8; scrambler::FRAME_BYTES] {
+    [0u8; scrambler::FRAME_BYTES]
+}
+
+// Both passes, and the writing where nothing is wrong. The buffer is lent for one super frame at a time.
+fn read_by(
+    t: &[u16; 4096],
+    positions: &[u8; 512],
+    scr: &[u8],
+    n: usize,
+    m0: u64,
+    capture: &[u8],
+    buffer: &mut [u8],
+    info: &mut [u8],
+    parity: &mut [u8],
+) -> Answer
+    requires { ⌜ Tables (now t) (now positions) × (now scr ≡ sequence) × (length (now buffer) ≡ superBytes) × Accepted n (now capture) (now info) (now parity) ⌝ }
+    ensures { λ r. ⌜ Outcome (lateAnswer n m0 (now (capture .entry))) (lateLeaves n m0 (now (capture .entry)) (now (info .entry)) (now (parity .entry))) r (now (info .exit), now (parity .exit)) ⌝ }
+{
+    let w = tally_words(t, positions, n, capture);
+    let b = tally_frames(t, positions, scr, n, m0, capture, buffer);
     let r = verdict(n, w, b);
     if r.number == 0 {
-        write_frames(&t, &positions, &scr, n, capture, &mut frame, info, parity);
+        write_frames(t, positions, scr, n, capture, buffer, info, parity);
     }
     r
 }

@@ -1,41 +1,44 @@
+-- `reader::all_zero` meets its contract. Assumes nothing.
+use borrow.Author.Needs.{needs}
+use Prim.Native.Nat.{ℕ, _-_}
+use mathlib.Core.Bool.{not}
+use native.Mathlib.Omega.{arith}
+use lib.Dec.{eqb}
+use lib.ListN.{getD}
+use Rattle.bits.proofs.LoopLaws.{Passed, passed-more, loops}
+use borrow.Author.Tests.{eq-eqb}
+use Rattle.reader.proofs.Searching.{zero-all, zero-not, someAt, some-none, some-all}
 use Rattle.reader.proofs.all_zero.Statement.{statement}
 use Rattle.reader.proofs.all_zero.Tie as tie
 use Rattle.reader.proofs.all_zero.Reads as reads
 use Rattle.reader.proofs.all_zero.Lts as lts
 
 abbrev Inv-loop : tie.InvT-loop
-Inv-loop word k₀ k = ?
+Inv-loop word k₀ k = Passed k (someAt word) 16
 
 abbrev μ-loop : tie.MeasureT-loop
-μ-loop word k₀ k = ?
+μ-loop word k₀ k = 16 - k
 
--- src/lib.rt:170:5
 loop-holds : tie.Need-loop-holds Inv-loop μ-loop
-loop-holds c = ?
+loop-holds c = search loops
 
--- src/lib.rt:171:12
 array-read-if1 : tie.Need-array-read-if1 Inv-loop μ-loop
-array-read-if1 c = ?
+array-read-if1 c = search loops
 
--- src/lib.rt:172:13
 returns : tie.Need-returns Inv-loop μ-loop
-returns c = ?
+returns c = zero-not (c .before .before .before .args .t1) (c .before .before .loop .k) (search needs) (c .if1 .taken)
 
--- src/lib.rt:170:9
 add-k : tie.Need-add-k Inv-loop μ-loop
-add-k c = ?
+add-k c = search loops
 
--- src/lib.rt:170:5
 loop-less : tie.Need-loop-less Inv-loop μ-loop
-loop-less c = ?
+loop-less c = search loops
 
--- src/lib.rt:170:5
 loop-again : tie.Need-loop-again Inv-loop μ-loop
-loop-again c = ?
+loop-again c = passed-more (c .before .before .loop .inv) (c .before .loop-test .taken) (some-none (c .before .before .before .args .t1) (c .before .before .loop .k) (c .if1 .left))
 
--- src/lib.rt:167:1
 returns-2 : tie.Need-returns-2 Inv-loop μ-loop
-returns-2 c = ?
+returns-2 c = some-all (c .before .before .args .t1) (search needs) (c .before .loop .inv) (c .loop-test .left)
 
 pub all-zero-spec : {M : Type 1} → statement M
 all-zero-spec =

@@ -1,3 +1,11 @@
+-- `reader::block_crc` meets its contract. Assumes nothing.
+use Prim.Native.Nat.{_+_}
+use Prim.Native.Nat.{_*_}
+use mathlib.Core.Path.{_∙_}
+use denote.Ref.{now}
+use Rattle.bits.specs.Bits.{bitAt, from}
+use Rattle.bits.proofs.Packing.{bitOf-lt}
+use Rattle.reader.proofs.Pieces.{crc-packed}
 use borrow.Author.Needs.{needs}
 use Rattle.reader.proofs.block_crc.Statement.{statement}
 use Rattle.reader.proofs.block_crc.Tie as tie
@@ -6,29 +14,26 @@ use Rattle.reader.proofs.block_crc.Lts as lts
 use Rattle.crc.proofs.crc.Reads as crc-reads
 use Rattle.reader.proofs.copy_bits.Reads as copy-bits-reads
 
--- src/lib.rt:330:18
 mul-copy-bits : tie.Need-mul-copy-bits
 mul-copy-bits c = search needs
 
--- src/lib.rt:330:30
 slice-aggregate-copy-bits : tie.Need-slice-aggregate-copy-bits
 slice-aggregate-copy-bits c = search needs
 
--- src/lib.rt:330:5
 copy-bits-requires : tie.Need-copy-bits-requires
 copy-bits-requires c κs = search needs
 
--- src/lib.rt:331:20
 slice-aggregate-crc : tie.Need-slice-aggregate-crc
 slice-aggregate-crc c = search needs
 
--- src/lib.rt:331:5
 crc-requires : tie.Need-crc-requires
 crc-requires c κs = search needs
 
--- src/lib.rt:325:1
 returns : tie.Need-returns
-returns c = ?
+returns c =
+    let s = c .before .before .before .before .before .before in
+    let a = s .args in
+    c .crc .ensures ∙ crc-packed (now (a .crcs)) _ 30583 (from (bitAt (now (a .s))) (261086 * a .b)) (λ i. bitOf-lt 8 (now (a .s)) (261086 * a .b + i)) (s .pre .0) (c .before .before .before .copy-bits .ensures)
 
 pub block-crc-spec : {M : Type 1} → statement M
 block-crc-spec =

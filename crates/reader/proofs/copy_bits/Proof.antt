@@ -1,3 +1,11 @@
+-- `reader::copy_bits` meets its contract. Assumes nothing.
+use Prim.Native.Nat.{_-_}
+use denote.Ref.{now}
+use lib.ListN.{length}
+use Rattle.bits.specs.Bits.{bitAt, byteOf, from}
+use Rattle.bits.proofs.Lists.{Filled, filled-more}
+use Rattle.bits.proofs.LoopLaws.{loops}
+use Rattle.reader.proofs.Pieces.{copied}
 use Rattle.reader.proofs.copy_bits.Statement.{statement}
 use Rattle.reader.proofs.copy_bits.Tie as tie
 use Rattle.reader.proofs.copy_bits.Reads as reads
@@ -5,50 +13,43 @@ use Rattle.reader.proofs.copy_bits.Lts as lts
 use Rattle.bits.proofs.byte_from.Reads as byte-from-reads
 
 abbrev Inv-loop : tie.InvT-loop
-Inv-loop s at out₀ k₀ k-end out k = ?
+Inv-loop s at out₀ k₀ k-end out k = Filled k (byteOf (from (bitAt s) at)) out₀ out
 
 abbrev μ-loop : tie.MeasureT-loop
-μ-loop s at out₀ k₀ k-end out k = ?
+μ-loop s at out₀ k₀ k-end out k = length out₀ - k
 
--- src/lib.rt:302:5
 loop-holds : tie.Need-loop-holds Inv-loop μ-loop
-loop-holds c = ?
+loop-holds c = search loops
 
--- src/lib.rt:303:42
 mul-byte-from : tie.Need-mul-byte-from Inv-loop μ-loop
-mul-byte-from c = ?
+mul-byte-from c = search loops
 
--- src/lib.rt:303:37
 add-byte-from : tie.Need-add-byte-from Inv-loop μ-loop
-add-byte-from c = ?
+add-byte-from c = search loops
 
--- src/lib.rt:303:18
 byte-from-requires : tie.Need-byte-from-requires Inv-loop μ-loop
-byte-from-requires c κs = ?
+byte-from-requires c κs = search loops
 
--- src/lib.rt:303:9
 slice-write-out : tie.Need-slice-write-out Inv-loop μ-loop
-slice-write-out c = ?
+slice-write-out c = search loops
 
--- src/lib.rt:302:9
 add-k : tie.Need-add-k Inv-loop μ-loop
-add-k c = ?
+add-k c = search loops
 
--- src/lib.rt:302:5
 loop-less : tie.Need-loop-less Inv-loop μ-loop
-loop-less c = ?
+loop-less c = search loops
 
--- src/lib.rt:302:5
 loop-again : tie.Need-loop-again Inv-loop μ-loop
-loop-again c = ?
+loop-again c =
+    let l = c .before .before in
+    let a = l .before .before .before .args in
+    filled-more (l .loop .inv) (c .before .loop-test .taken) (copied (now (a .s)) (a .at) (l .loop .k) (c .byte-from .result) (c .byte-from .ensures))
 
--- src/lib.rt:298:1
 same-length : tie.Need-same-length Inv-loop μ-loop
-same-length c = ?
+same-length c = search loops
 
--- src/lib.rt:298:1
 returns : tie.Need-returns Inv-loop μ-loop
-returns c = ?
+returns c = search loops
 
 pub copy-bits-spec : {M : Type 1} → statement M
 copy-bits-spec =

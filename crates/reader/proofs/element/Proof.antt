@@ -1,3 +1,8 @@
+-- `reader::element` meets its contract. Assumes nothing.
+use mathlib.Core.Path.{ap, _∙_}
+use denote.Ref.{now}
+use Rattle.reader.specs.Read.{repaired}
+use Rattle.reader.proofs.Pieces.{word-of}
 use borrow.Author.Needs.{needs}
 use Rattle.reader.proofs.element.Statement.{statement}
 use Rattle.reader.proofs.element.Tie as tie
@@ -6,17 +11,17 @@ use Rattle.reader.proofs.element.Lts as lts
 use Rattle.reader.proofs.repaired_in.Reads as repaired-in-reads
 use Rattle.reader.proofs.slot.Reads as slot-reads
 
--- src/lib.rt:247:48
 slot-requires : tie.Need-slot-requires
 slot-requires c κs = search needs
 
--- src/lib.rt:247:9
 repaired-in-requires : tie.Need-repaired-in-requires
 repaired-in-requires c κs = search needs
 
--- src/lib.rt:243:1
 returns : tie.Need-returns
-returns c = ?
+returns c =
+    let a = c .before .before .before .before .args in
+    word-of (now (a .capture)) (c .before .before .slot .result) (c .before .repaired-in .result) (c .before .repaired-in .ensures)
+    ∙ ap (repaired (now (a .capture))) (c .before .before .slot .ensures)
 
 pub element-spec : {M : Type 1} → statement M
 element-spec = tie.close (tie.spec slot-requires repaired-in-requires returns)

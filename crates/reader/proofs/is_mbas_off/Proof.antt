@@ -1,3 +1,10 @@
+-- `reader::is_mbas_off` meets its contract. Assumes nothing.
+use Prim.Native.Nat.{_+_, _*_}
+use denote.Ref.{now}
+use Rattle.bits.specs.Bits.{bitAt}
+use Rattle.bits.proofs.Numbers.{num-front}
+use Rattle.bits.proofs.Packing.{bitOf-lt}
+use Rattle.reader.specs.Parts.{mbasOff}
 use borrow.Author.Needs.{needs}
 use Rattle.reader.proofs.is_mbas_off.Statement.{statement}
 use Rattle.reader.proofs.is_mbas_off.Tie as tie
@@ -6,25 +13,24 @@ use Rattle.reader.proofs.is_mbas_off.Lts as lts
 use Rattle.bits.proofs.byte_from.Reads as byte-from-reads
 use Rattle.line.proofs.mbas.Reads as mbas-reads
 
--- src/lib.rt:321:24
 mul-byte-from : tie.Need-mul-byte-from
 mul-byte-from c = search needs
 
--- src/lib.rt:321:24
 add-byte-from : tie.Need-add-byte-from
 add-byte-from c = search needs
 
--- src/lib.rt:321:5
 byte-from-requires : tie.Need-byte-from-requires
 byte-from-requires c κs = search needs
 
--- src/lib.rt:321:52
 mbas-requires : tie.Need-mbas-requires
 mbas-requires c κs = search needs
 
--- src/lib.rt:317:1
 returns : tie.Need-returns
-returns c = ?
+unfolding mbasOff
+returns c =
+    let a = c .before .before .before .args in
+    let s = now (a .s) in
+    rw (c .before .byte-from .ensures, c .mbas .ensures, num-front 6 2 (bitAt s) (261086 * a .b + 244696) (bitOf-lt 8 s))
 
 pub is-mbas-off-spec : {M : Type 1} → statement M
 is-mbas-off-spec =

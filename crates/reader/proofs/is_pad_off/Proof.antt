@@ -1,3 +1,9 @@
+-- `reader::is_pad_off` meets its contract. Assumes nothing.
+use borrow.Author.Needs.{needs}
+use Prim.Native.Nat.{_-_}
+use denote.Ref.{now}
+use Rattle.bits.proofs.LoopLaws.{Passed, passed-more, loops}
+use Rattle.reader.proofs.Blocks.{padByte, pad-byte, pad-here, pad-zero}
 use Rattle.reader.proofs.is_pad_off.Statement.{statement}
 use Rattle.reader.proofs.is_pad_off.Tie as tie
 use Rattle.reader.proofs.is_pad_off.Reads as reads
@@ -5,46 +11,43 @@ use Rattle.reader.proofs.is_pad_off.Lts as lts
 use Rattle.bits.proofs.byte_from.Reads as byte-from-reads
 
 abbrev Inv-loop : tie.InvT-loop
-Inv-loop s k₀ k = ?
+Inv-loop s k₀ k = Passed k (padByte s) 90
 
 abbrev μ-loop : tie.MeasureT-loop
-μ-loop s k₀ k = ?
+μ-loop s k₀ k = 90 - k
 
--- src/lib.rt:346:5
 loop-holds : tie.Need-loop-holds Inv-loop μ-loop
-loop-holds c = ?
+loop-holds c = search loops
 
--- src/lib.rt:347:41
 mul-byte-from : tie.Need-mul-byte-from Inv-loop μ-loop
-mul-byte-from c = ?
+mul-byte-from c = search loops
 
--- src/lib.rt:347:31
 add-byte-from : tie.Need-add-byte-from Inv-loop μ-loop
-add-byte-from c = ?
+add-byte-from c = search loops
 
--- src/lib.rt:347:12
 byte-from-requires : tie.Need-byte-from-requires Inv-loop μ-loop
-byte-from-requires c κs = ?
+byte-from-requires c κs = search loops
 
--- src/lib.rt:348:13
 returns : tie.Need-returns Inv-loop μ-loop
-returns c = ?
+returns c =
+    let l = c .before .before .before in
+    let s = l .before .before in
+    pad-here (now (s .args .s)) (l .loop .k) (c .before .byte-from .result) (s .pre) (c .before .before .loop-test .taken) (c .before .byte-from .ensures) (c .if1 .taken)
 
--- src/lib.rt:346:9
 add-k : tie.Need-add-k Inv-loop μ-loop
-add-k c = ?
+add-k c = search loops
 
--- src/lib.rt:346:5
 loop-less : tie.Need-loop-less Inv-loop μ-loop
-loop-less c = ?
+loop-less c = search loops
 
--- src/lib.rt:346:5
 loop-again : tie.Need-loop-again Inv-loop μ-loop
-loop-again c = ?
+loop-again c =
+    let l = c .before .before .before in
+    passed-more (l .loop .inv) (c .before .before .loop-test .taken)
+    (pad-byte (now (l .before .before .args .s)) (l .loop .k) (c .before .byte-from .result) (c .before .byte-from .ensures) (c .if1 .left))
 
--- src/lib.rt:342:1
 returns-2 : tie.Need-returns-2 Inv-loop μ-loop
-returns-2 c = ?
+returns-2 c = pad-zero (now (c .before .before .before .args .s)) (λ k h. c .before .loop .inv .none k (search needs))
 
 pub is-pad-off-spec : {M : Type 1} → statement M
 is-pad-off-spec =

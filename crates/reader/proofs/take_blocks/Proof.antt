@@ -1,3 +1,7 @@
+-- `reader::take_blocks` meets its contract. Assumes nothing.
+use Prim.Native.Nat.{_-_, _≤_}
+use Rattle.bits.proofs.LoopLaws.{Folded, loops}
+use Rattle.reader.specs.Parts.{blockTaken}
 use Rattle.reader.proofs.take_blocks.Statement.{statement}
 use Rattle.reader.proofs.take_blocks.Tie as tie
 use Rattle.reader.proofs.take_blocks.Reads as reads
@@ -5,34 +9,28 @@ use Rattle.reader.proofs.take_blocks.Lts as lts
 use Rattle.reader.proofs.take_block.Reads as take-block-reads
 
 abbrev Inv-loop : tie.InvT-loop
-Inv-loop crcs m0 s f y₀ b₀ y b = ?
+Inv-loop crcs m0 s f y₀ b₀ y b = Folded (blockTaken m0 s f) y₀ b y × (b ≤ 5)
 
 abbrev μ-loop : tie.MeasureT-loop
-μ-loop crcs m0 s f y₀ b₀ y b = ?
+μ-loop crcs m0 s f y₀ b₀ y b = 5 - b
 
--- src/lib.rt:373:5
 loop-holds : tie.Need-loop-holds Inv-loop μ-loop
-loop-holds c = ?
+loop-holds c = search loops
 
--- src/lib.rt:374:9
 take-block-requires : tie.Need-take-block-requires Inv-loop μ-loop
-take-block-requires c κs = ?
+take-block-requires c κs = search loops
 
--- src/lib.rt:373:9
 add-b : tie.Need-add-b Inv-loop μ-loop
-add-b c = ?
+add-b c = search loops
 
--- src/lib.rt:373:5
 loop-less : tie.Need-loop-less Inv-loop μ-loop
-loop-less c = ?
+loop-less c = search loops
 
--- src/lib.rt:373:5
 loop-again : tie.Need-loop-again Inv-loop μ-loop
-loop-again c = ?
+loop-again c = search loops
 
--- src/lib.rt:368:1
 returns : tie.Need-returns Inv-loop μ-loop
-returns c = ?
+returns c = search loops
 
 pub take-blocks-spec : {M : Type 1} → statement M
 take-blocks-spec =

@@ -1,3 +1,11 @@
+-- `reader::take_word` meets its contract. Assumes nothing.
+use Prim.Native.Nat.{ℕ, _+_, _^_, _≤_, _<_}
+use mathlib.Core.Bool.{Bool, cond}
+use mathlib.Core.Path.{_≡_, ap, _∙_}
+use native.Mathlib.Omega.{arith}
+use denote.Ref.{now}
+use Rattle.reader.specs.Parts.{soughtOf}
+use Rattle.reader.proofs.Searching.{seen-le, word-more, beyond-is, filled-is, seen-as}
 use borrow.Author.Needs.{needs}
 use Rattle.reader.proofs.take_word.Statement.{statement}
 use Rattle.reader.proofs.take_word.Tie as tie
@@ -10,41 +18,43 @@ use Rattle.reader.proofs.one_if.Reads as one-if-reads
 use Rattle.reader.proofs.repaired_in.Reads as repaired-in-reads
 use Rattle.reader.proofs.sought.Reads as sought-reads
 
--- src/lib.rt:206:9
 repaired-in-requires : tie.Need-repaired-in-requires
 repaired-in-requires c κs = search needs
 
--- src/lib.rt:210:37
 number-requires : tie.Need-number-requires
 number-requires c κs = search needs
 
--- src/lib.rt:210:17
 sought-requires : tie.Need-sought-requires
 sought-requires c κs = search needs
 
--- src/lib.rt:211:37
 is-filled-requires : tie.Need-is-filled-requires
 is-filled-requires c κs = search needs
 
--- src/lib.rt:211:17
 sought-requires-2 : tie.Need-sought-requires-2
 sought-requires-2 c κs = search needs
 
--- src/lib.rt:212:31
 is-found-requires : tie.Need-is-found-requires
 is-found-requires c κs = search needs
 
--- src/lib.rt:212:24
 one-if-requires : tie.Need-one-if-requires
 one-if-requires c κs = search needs
 
--- src/lib.rt:212:15
 add-t17 : tie.Need-add-t17
-add-t17 c = ?
+add-t17 c =
+    let s = c .before .before .before .before .before .before .before .before .before .before in
+    let a = s .args in
+    let h : a .s .seen ≤ a .w = seen-le (a .n) (now (a .capture)) (a .w) (a .s) (s .pre .2) in
+    let q : a .s .seen + c .before .one-if .result < 2 ^ 64 = omega (arith, s .pre .1, c .before .one-if .ensures .small) in record { fits = q }
 
--- src/lib.rt:195:1
 returns : tie.Need-returns
-returns c = ?
+returns c =
+    let s = c .before .before .before .before .before .before .before .before .before .before in
+    let a = s .args in
+    let r = c .before .before .before .before .before .before .before .before .repaired-in in
+    word-more (a .n) (now (a .capture)) (a .w) (a .s) _ _ _ (s .pre .2)
+    (c .before .before .before .before .before .sought .ensures ∙ ap (soughtOf (a .s .beyond) (a .w)) (beyond-is (now (a .capture)) (a .w) (r .result) _ (r .ensures) (c .before .before .before .before .before .before .number .ensures)))
+    (c .before .before .before .sought2 .ensures ∙ ap (soughtOf (a .s .filler) (a .w)) (c .before .before .before .before .is-filled .ensures ∙ filled-is (a .n) (now (a .capture)) (a .w) (r .result) (r .ensures)))
+    (ap (λ (x : ℕ). a .s .seen + x) (c .before .one-if .ensures .is ∙ ap (λ (b : Bool). cond b 1 0) (c .before .before .is-found .ensures ∙ seen-as (now (a .capture)) (a .w) (r .result) (r .ensures))))
 
 pub take-word-spec : {M : Type 1} → statement M
 take-word-spec =

@@ -1,3 +1,15 @@
+-- `reader::write_blocks` meets its contract: a block a turn. Assumes nothing.
+use lib.ListN.{length, take, drop}
+use Rattle.bits.specs.Bits.{bitAt, from}
+use Rattle.reader.proofs.Places.{info-byte, parity-byte, part-long, filled-part}
+use Prim.Native.Nat.{_+_, _-_, _*_, _≤_}
+use mathlib.Core.Path.{_≡_, ap, _∙_}
+use native.Mathlib.Omega.{arith}
+use denote.Ref.{now}
+use borrow.Author.Needs.{needs}
+use Rattle.bits.specs.Bits.{byteOf}
+use Rattle.bits.proofs.Lists.{Filled, filled-none, filled-block, filled-all}
+use Rattle.reader.specs.Parts.{infoIn, parityIn}
 use Rattle.reader.proofs.write_blocks.Statement.{statement}
 use Rattle.reader.proofs.write_blocks.Tie as tie
 use Rattle.reader.proofs.write_blocks.Reads as reads
@@ -5,98 +17,90 @@ use Rattle.reader.proofs.write_blocks.Lts as lts
 use Rattle.reader.proofs.copy_bits.Reads as copy-bits-reads
 
 abbrev Inv-loop : tie.InvT-loop
-Inv-loop s info₀ parity₀ b₀ info parity b = ?
+Inv-loop s info₀ parity₀ b₀ info parity b = Filled (30583 * b) (byteOf (infoIn s)) info₀ info × Filled (2048 * b) (byteOf (parityIn s)) parity₀ parity × (b ≤ 5)
 
 abbrev μ-loop : tie.MeasureT-loop
-μ-loop s info₀ parity₀ b₀ info parity b = ?
+μ-loop s info₀ parity₀ b₀ info parity b = 5 - b
 
--- src/lib.rt:435:5
 loop-holds : tie.Need-loop-holds Inv-loop μ-loop
-loop-holds c = ?
+loop-holds c = (filled-none, filled-none, omega arith)
 
--- src/lib.rt:436:17
 mul-i : tie.Need-mul-i Inv-loop μ-loop
-mul-i c = ?
+mul-i c = search needs
 
--- src/lib.rt:437:17
 mul-p : tie.Need-mul-p Inv-loop μ-loop
-mul-p c = ?
+mul-p c = search needs
 
--- src/lib.rt:438:22
 mul-copy-bits : tie.Need-mul-copy-bits Inv-loop μ-loop
-mul-copy-bits c = ?
+mul-copy-bits c = search needs
 
--- src/lib.rt:438:47
 add-copy-bits : tie.Need-add-copy-bits Inv-loop μ-loop
-add-copy-bits c = ?
+add-copy-bits c = search needs
 
--- src/lib.rt:438:34
 sub-copy-bits : tie.Need-sub-copy-bits Inv-loop μ-loop
-sub-copy-bits c = ?
+sub-copy-bits c = search needs
 
--- src/lib.rt:438:34
 part-copy-bits-start : tie.Need-part-copy-bits-start Inv-loop μ-loop
-part-copy-bits-start c = ?
+part-copy-bits-start c = search needs
 
--- src/lib.rt:438:34
 part-copy-bits-end : tie.Need-part-copy-bits-end Inv-loop μ-loop
-part-copy-bits-end c = ?
+part-copy-bits-end c = search needs
 
--- src/lib.rt:438:9
 copy-bits-requires : tie.Need-copy-bits-requires Inv-loop μ-loop
-copy-bits-requires c κs = ?
+copy-bits-requires c κs = search needs
 
--- src/lib.rt:439:22
 mul-copy-bits-2 : tie.Need-mul-copy-bits-2 Inv-loop μ-loop
-mul-copy-bits-2 c = ?
+mul-copy-bits-2 c = search needs
 
--- src/lib.rt:439:22
 add-copy-bits-2 : tie.Need-add-copy-bits-2 Inv-loop μ-loop
-add-copy-bits-2 c = ?
+add-copy-bits-2 c = search needs
 
--- src/lib.rt:439:58
 add-copy-bits-3 : tie.Need-add-copy-bits-3 Inv-loop μ-loop
-add-copy-bits-3 c = ?
+add-copy-bits-3 c = search needs
 
--- src/lib.rt:439:43
 sub-copy-bits-2 : tie.Need-sub-copy-bits-2 Inv-loop μ-loop
-sub-copy-bits-2 c = ?
+sub-copy-bits-2 c = search needs
 
--- src/lib.rt:439:43
 part-copy-bits-start-2 : tie.Need-part-copy-bits-start-2 Inv-loop μ-loop
-part-copy-bits-start-2 c = ?
+part-copy-bits-start-2 c = search needs
 
--- src/lib.rt:439:43
 part-copy-bits-end-2 : tie.Need-part-copy-bits-end-2 Inv-loop μ-loop
-part-copy-bits-end-2 c = ?
+part-copy-bits-end-2 c = search needs
 
--- src/lib.rt:439:9
 copy-bits-requires-2 : tie.Need-copy-bits-requires-2 Inv-loop μ-loop
-copy-bits-requires-2 c κs = ?
+copy-bits-requires-2 c κs = search needs
 
--- src/lib.rt:435:9
 add-b : tie.Need-add-b Inv-loop μ-loop
-add-b c = ?
+add-b c = search needs
 
--- src/lib.rt:435:5
 loop-less : tie.Need-loop-less Inv-loop μ-loop
-loop-less c = ?
+loop-less c = search needs
 
--- src/lib.rt:435:5
 loop-again : tie.Need-loop-again Inv-loop μ-loop
-loop-again c = ?
+loop-again c =
+    let h = c .before .before .before .before .before .before .before .before .before .loop in
+    let s = now (c .before .before .before .before .before .before .before .before .before .before .before .before .before .args .s) in
+    let i = 30583 * h .b in
+    let p = 2048 * h .b in
+    let ki = i + 30583 - i in
+    let kp = p + 2048 - p in (
+      filled-part ki (30583 * (h .b + 1)) (length (take ki (drop i (h .info)))) (byteOf (from (bitAt s) (261086 * h .b)))
+          (h .inv .0) (omega arith) (omega arith) (part-long i ki (h .info) (omega arith)) (c .before .before .before .before .before .before .copy-bits .ensures) (λ j l. info-byte s (h .b) j (omega arith)),
+      filled-part kp (2048 * (h .b + 1)) (length (take kp (drop p (h .parity)))) (byteOf (from (bitAt s) (261086 * h .b + 244702)))
+          (h .inv .1) (omega arith) (omega arith) (part-long p kp (h .parity) (omega arith)) (c .before .before .copy-bits2 .ensures) (λ j l. parity-byte s (h .b) j (omega arith)),
+      omega arith,
+    )
 
--- src/lib.rt:431:1
 same-length : tie.Need-same-length Inv-loop μ-loop
-same-length c = ?
+same-length c = search needs
 
--- src/lib.rt:431:1
 same-length-2 : tie.Need-same-length-2 Inv-loop μ-loop
-same-length-2 c = ?
+same-length-2 c = search needs
 
--- src/lib.rt:431:1
 returns : tie.Need-returns Inv-loop μ-loop
-returns c = ?
+returns c =
+    let i = c .before .loop .inv in
+    (filled-all 152915 (i .0) (omega arith) (search needs), filled-all 10240 (i .1) (omega arith) (search needs))
 
 pub write-blocks-spec : {M : Type 1} → statement M
 write-blocks-spec =
