@@ -1,7 +1,7 @@
 -- The table of reading as the tests that the code makes: numbers 1 and 2 first, then the two tallies. Assumes nothing.
 use Prim.Native.Nat.{ℕ, suc, _*_, _≤_, _<_}
 use mathlib.Core.Bool.{Bool, true, false, not, cond, _&&_}
-use mathlib.Core.Path.{_≡_, refl, sym, ap, _∙_}
+use mathlib.Core.Path.{_≡_, refl, sym, ap, ap₂, _∙_}
 use mathlib.Core.List.{List, [], _∷_}
 use native.Mathlib.Omega.{arith}
 use borrow.Author.Tests.{leb-true, eqb-true, not-false}
@@ -13,14 +13,16 @@ use Rattle.answer.specs.Rows.{Row, done, refused, answerOf, whole, buffers, buf
 use Rattle.answer.specs.Outcomes.{Outcome, written}
 use Rattle.answer.specs.declared.Answer.{Answer}
 use Rattle.answer.proofs.Table.{row-whole, row-buffers, inTurn, and-left, and-right}
-use Rattle.answer.proofs.Meets.{meets-refused}
+use Rattle.answer.proofs.Meets.{meets-done, meets-refused}
 use Rattle.line.specs.Sizes.{fecBlocks, infoLength, parityLength, captureLength, words}
 use Rattle.line.specs.Captures.{superAllowed, wrong}
 use Rattle.line.specs.Fec.{mbasAllowed}
 use Rattle.line.specs.Frames.{infoOf, parityOf}
 use Rattle.line.specs.Words.{fecIn}
 use Rattle.reader.specs.Read.{repaired, isBeyond, isFilled, mbasDiffers, crcDiffers, padDiffers, isSeen, readRows, readAnswer, readLeaves}
-use Rattle.reader.specs.Parts.{judged, Accepted, verdictOf, lateAnswer, lateLeaves}
+use Rattle.reader.specs.Parts.{judged, Accepted, wordsTo, framesTo, verdictOf, lateAnswer, lateLeaves}
+use Rattle.reader.specs.declared.WordTally.{WordTally}
+use Rattle.reader.specs.declared.BlockTally.{BlockTally}
 
 -- the rows after 1 and 2
 lateRows : ℕ → ℕ → List ℕ → List Row
@@ -153,3 +155,16 @@ module _ (N m0 : ℕ) (cap info par : List ℕ) (r : Answer) (e : r ≡ judged N
   read-refused h =
       meets-refused (infoOf N (fecIn (repaired cap)), parityOf N (fecIn (repaired cap)))
       (e ∙ judged-stop N m0 (length cap) (length info) (length par) (lateAnswer N m0 cap) (λ z. h (ap (λ (x : Answer). x .number) e ∙ z)) ∙ sym (read-judged N m0 cap info par)) h
+
+-- ---- what the code has found after the two passes
+
+module _ (N m0 : ℕ) (cap info par : List ℕ) (w : WordTally) (b : BlockTally) (r : Answer) (ew : w ≡ wordsTo N cap (words N)) (eb : b ≡ framesTo m0 cap N) (er : r ≡ verdictOf N w b) where
+  told : r ≡ lateAnswer N m0 cap
+  told = er ∙ ap₂ (verdictOf N) ew eb
+
+  pub late-done : (i p : List ℕ) → r .number ≡ 0 → i ≡ infoOf N (fecIn (repaired cap)) → p ≡ parityOf N (fecIn (repaired cap))
+      → Outcome (lateAnswer N m0 cap) (lateLeaves N m0 cap info par) r (i, p)
+  late-done i p z ei ep = meets-done (info, par) told z (rw (ei, ep))
+
+  pub late-refused : (r .number ≡ 0 → ⊥) → Outcome (lateAnswer N m0 cap) (lateLeaves N m0 cap info par) r (info, par)
+  late-refused h = meets-refused (infoOf N (fecIn (repaired cap)), parityOf N (fecIn (repaired cap))) told h
