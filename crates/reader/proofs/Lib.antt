@@ -5,3 +5,4 @@ pub mod Pieces
 pub mod Places
 pub mod Blocks
 pub mod Exactly
+pub mod Unique

@@ -19,7 +19,7 @@ ghost use Rattle.line.specs.Captures.{superAllowed};
 ghost use Rattle.line.specs.Fec.{mbasAllowed};
 ghost use Rattle.line.specs.Frames.{infoOf, parityOf};
 ghost use Rattle.line.specs.Slots.{slotOf, holds};
-ghost use Rattle.line.specs.Words.{wordIn, fecIn};
+ghost use Rattle.line.specs.Words.{fecIn};
 ghost use Rattle.reader.specs.Read.{repaired, allZero, readAnswer, readLeaves};
 ghost use Rattle.reader.specs.Parts.{judged, Accepted, OneIf, Tables, sequence, soughtOf, found, wordsTo, frameOf, followed, plainByte, mbasOff, crcOff, padOff, blockTaken, framesTo, infoIn, parityIn, verdictOf, lateAnswer, lateLeaves};
 
@@ -177,12 +177,12 @@ fn sought(x: usize, k: usize, here: bool) -> usize
 
 // ---- words
 
-// Word w of the capture, repaired.
-fn repaired_in(t: &[u16; 4096], positions: &[u8; 512], capture: &[u8], w: usize) -> Repaired
+// A word, repaired by the lent tables.
+fn repair_word(t: &[u16; 4096], positions: &[u8; 512], word: [u8; 16]) -> Repaired
     requires { ⌜ Tables (now t) (now positions) ⌝ }
-    ensures { λ r. ⌜ r ≡ repairOf (wordIn (now (capture .entry)) w) ⌝ }
+    ensures { λ r. ⌜ r ≡ repairOf word ⌝ }
 {
-    hamming::repair_by(t, positions, line::word_in(capture, w))
+    hamming::repair_by(t, positions, word)
 }
 
 // Whether the checks were not zero: a repaired check bit counts too.
@@ -235,7 +235,8 @@ fn take_word(
     requires { ⌜ Tables (now t) (now positions) × (w < 2 ^ 32) × (s ≡ wordsTo n (now capture) w) ⌝ }
     ensures { λ r. ⌜ r ≡ wordsTo n (now (capture .entry)) (w + 1) ⌝ }
 {
-    let r = repaired_in(t, positions, capture, w);
+    let received = line::word_in(capture, w);
+    let r = repair_word(t, positions, received);
     let f = r.found;
     let word = r.word;
     WordTally {
@@ -276,7 +277,7 @@ fn element(t: &[u16; 4096], positions: &[u8; 512], capture: &[u8], e: usize) -> 
     requires { ⌜ Tables (now t) (now positions) × (e < 2 ^ 32) ⌝ }
     ensures { λ r. ⌜ r ≡ repaired (now (capture .entry)) (slotOf e) ⌝ }
 {
-    let r = repaired_in(t, positions, capture, slot(e));
+    let r = repair_word(t, positions, line::word_in(capture, slot(e)));
     r.word
 }
 

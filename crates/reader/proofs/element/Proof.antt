@@ -1,6 +1,7 @@
 -- `reader::element` meets its contract. Assumes nothing.
 use mathlib.Core.Path.{ap, _∙_}
 use denote.Ref.{now}
+use Rattle.hamming.specs.Repair.{repairOf}
 use Rattle.reader.specs.Read.{repaired}
 use Rattle.reader.proofs.Pieces.{word-of}
 use borrow.Author.Needs.{needs}
@@ -8,20 +9,25 @@ use Rattle.reader.proofs.element.Statement.{statement}
 use Rattle.reader.proofs.element.Tie as tie
 use Rattle.reader.proofs.element.Reads as reads
 use Rattle.reader.proofs.element.Lts as lts
-use Rattle.reader.proofs.repaired_in.Reads as repaired-in-reads
+use Rattle.line.proofs.word_in.Reads as word-in-reads
+use Rattle.reader.proofs.repair_word.Reads as repair-word-reads
 use Rattle.reader.proofs.slot.Reads as slot-reads
 
 slot-requires : tie.Need-slot-requires
 slot-requires c κs = search needs
 
-repaired-in-requires : tie.Need-repaired-in-requires
-repaired-in-requires c κs = search needs
+word-in-requires : tie.Need-word-in-requires
+word-in-requires c κs = search needs
+
+repair-word-requires : tie.Need-repair-word-requires
+repair-word-requires c κs = search needs
 
 returns : tie.Need-returns
 returns c =
-    let a = c .before .before .before .before .args in
-    word-of (now (a .capture)) (c .before .before .slot .result) (c .before .repaired-in .result) (c .before .repaired-in .ensures)
-    ∙ ap (repaired (now (a .capture))) (c .before .before .slot .ensures)
+    let cap = now (c .before .before .before .before .before .args .capture) in
+    let r = c .before .repair-word in
+    word-of cap (c .before .before .before .slot .result) (r .result) (r .ensures ∙ ap repairOf (c .before .before .word-in .ensures))
+    ∙ ap (repaired cap) (c .before .before .before .slot .ensures)
 
 pub element-spec : {M : Type 1} → statement M
-element-spec = tie.close (tie.spec slot-requires repaired-in-requires returns)
+element-spec = tie.close (tie.spec slot-requires word-in-requires repair-word-requires returns)
