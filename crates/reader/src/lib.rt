@@ -1,1 +1,496 @@
-// reader
+// Reading a capture: every refusal is known before the first byte is written.
+use answer::Answer;
+use hamming::Found;
+use hamming::Repaired;
+ghost use mathlib.Core.Bool.{not, _&&_};
+ghost use mathlib.Core.Path.{_≡_};
+ghost use Prim.Native.Nat.{_+_, _*_, _^_, _<_, _≤_};
+ghost use lib.Dec.{eqb};
+ghost use lib.ListN.{length};
+ghost use Rattle.bits.specs.Bits.{tabulate, num, bitAt, pack, from, Bytes};
+ghost use Rattle.bits.specs.Loops.{upto};
+ghost use Rattle.answer.specs.Rows.{done};
+ghost use Rattle.answer.specs.Outcomes.{Outcome};
+ghost use Rattle.crc.specs.Crc.{crcOf};
+ghost use Rattle.crc.specs.ByBytes.{entries};
+ghost use Rattle.hamming.specs.Repair.{repairOf};
+ghost use Rattle.line.specs.Sizes.{infoBits, parityFrom, fecBits, superBytes, infoLength, parityLength, words};
+ghost use Rattle.line.specs.Captures.{superAllowed};
+ghost use Rattle.line.specs.Fec.{mbasAllowed};
+ghost use Rattle.line.specs.Frames.{infoOf, parityOf};
+ghost use Rattle.line.specs.Slots.{slotOf, holds};
+ghost use Rattle.line.specs.Words.{fecIn};
+ghost use Rattle.reader.specs.Read.{repaired, allZero, readAnswer, readLeaves};
+ghost use Rattle.reader.specs.Parts.{judged, Accepted, OneIf, Tables, sequence, soughtOf, found, wordsTo, frameOf, followed, plainByte, mbasOff, crcOff, padOff, blockTaken, framesTo, infoIn, parityIn, verdictOf, lateAnswer, lateLeaves};
+
+// What the pass over the words found: the first word beyond repair and the first filler word not zero, each the number of words where there
+// is none, and how many words had checks that were not zero.
+pub struct WordTally {
+    pub beyond: usize,
+    pub filler: usize,
+    pub seen: usize,
+}
+
+// What the pass over the super frames found: the first FEC block whose MBAS, and whose CRC, is wrong, and the first super frame whose pad
+// is not zero; each the number of places where there is none.
+pub struct BlockTally {
+    pub mbas: usize,
+    pub crc: usize,
+    pub pad: usize,
+}
+
+// Takes n super frames, whose FEC blocks count from m0 on, and a capture, and fills information and parity. The count is that of the
+// words whose checks were not zero.
+pub fn read(n: u64, m0: u64, capture: &[u8], info: &mut [u8], parity: &mut [u8]) -> Answer
+    ensures { λ r. ⌜ Outcome (readAnswer n m0 (now (capture .entry)) (now (info .entry)) (now (parity .entry))) (readLeaves n m0 (now (capture .entry)) (now (info .entry)) (now (parity .entry))) r (now (info .exit), now (parity .exit)) ⌝ }
+{
+    let r = judge(
+        n,
+        m0,
+        capture.len() as u64,
+        info.len() as u64,
+        parity.len() as u64,
+    );
+    if r.number == 0 {
+        read_accepted(n as usize, m0, capture, info, parity)
+    } else {
+        r
+    }
+}
+
+// Numbers 1 and 2, before anything is read.
+fn judge(n: u64, m0: u64, capture_len: u64, info_len: u64, parity_len: u64) -> Answer
+    ensures { λ r. ⌜ r ≡ judged n m0 «capture_len» «info_len» «parity_len» (done 0) ⌝ }
+{
+    if is_outside(n, m0) {
+        return answer::refuse(answer::OUTSIDE_SET, 0);
+    }
+    if capture_len != 175616 * n + 7680 {
+        return answer::refuse(answer::WRONG_LENGTH, answer::buffer_place(1));
+    }
+    if info_len != 152915 * n {
+        return answer::refuse(answer::WRONG_LENGTH, answer::buffer_place(2));
+    }
+    if parity_len != 10240 * n {
+        return answer::refuse(answer::WRONG_LENGTH, answer::buffer_place(3));
+    }
+    answer::granted(0)
+}
+
+// n is not in 1..8, or m0 may not be counted from.
+fn is_outside(n: u64, m0: u64) -> bool
+    ensures { λ r. ⌜ r ≡ not (superAllowed n && mbasAllowed m0) ⌝ }
+{
+    if n < 1 {
+        return true;
+    }
+    if 8 < n {
+        return true;
+    }
+    !line::mbas_allowed(m0)
+}
+
+// The numbers and lengths are right. Tables are made once and lent; a constant one would be copied at every use.
+fn read_accepted(n: usize, m0: u64, capture: &[u8], info: &mut [u8], parity: &mut [u8]) -> Answer
+    requires { ⌜ Accepted n (now capture) (now info) (now parity) ⌝ }
+    ensures { λ r. ⌜ Outcome (lateAnswer n m0 (now (capture .entry))) (lateLeaves n m0 (now (capture .entry)) (now (info .entry)) (now (parity .entry))) r (now (info .exit), now (parity .exit)) ⌝ }
+{
+    let t = hamming::byte_table();
+    let positions = hamming::position_table();
+    let scr = scrambler::sequence();
+    let mut buffer = blank();
+    read_by(
+        &t,
+        &positions,
+        &scr,
+        n,
+        m0,
+        capture,
+        &mut buffer,
+        info,
+        parity,
+    )
+}
+
+// A place for the bytes of one super frame.
+fn blank() -> [u8; scrambler::FRAME_BYTES] {
+    [0u8; scrambler::FRAME_BYTES]
+}
+
+// Both passes, and the writing where nothing is wrong. The buffer is lent for one super frame at a time.
+fn read_by(
+    t: &[u16; 4096],
+    positions: &[u8; 512],
+    scr: &[u8],
+    n: usize,
+    m0: u64,
+    capture: &[u8],
+    buffer: &mut [u8],
+    info: &mut [u8],
+    parity: &mut [u8],
+) -> Answer
+    requires { ⌜ Tables (now t) (now positions) × (now scr ≡ sequence) × (length (now buffer) ≡ superBytes) × Accepted n (now capture) (now info) (now parity) ⌝ }
+    ensures { λ r. ⌜ Outcome (lateAnswer n m0 (now (capture .entry))) (lateLeaves n m0 (now (capture .entry)) (now (info .entry)) (now (parity .entry))) r (now (info .exit), now (parity .exit)) ⌝ }
+{
+    let w = tally_words(t, positions, n, capture);
+    let b = tally_frames(t, positions, scr, n, m0, capture, buffer);
+    let r = verdict(n, w, b);
+    if r.number == 0 {
+        write_frames(t, positions, scr, n, capture, buffer, info, parity);
+    }
+    r
+}
+
+// The smallest number that applies, at its first place.
+fn verdict(n: usize, w: WordTally, b: BlockTally) -> Answer
+    requires { ⌜ n < 9 ⌝ }
+    ensures { λ r. ⌜ r ≡ verdictOf n w b ⌝ }
+{
+    if w.beyond < 10976 * n + 480 {
+        return answer::refuse(answer::BEYOND_REPAIR, w.beyond as u64);
+    }
+    if w.filler < 10976 * n + 480 {
+        return answer::refuse(answer::FILLER_NOT_ZERO, w.filler as u64);
+    }
+    if b.mbas < 5 * n {
+        return answer::refuse(answer::WRONG_MBAS, b.mbas as u64);
+    }
+    if b.crc < 5 * n {
+        return answer::refuse(answer::WRONG_CRC, b.crc as u64);
+    }
+    if b.pad < n {
+        return answer::refuse(answer::PAD_NOT_ZERO, b.pad as u64);
+    }
+    answer::granted(w.seen as u64)
+}
+
+// A search that goes on to the end: x is the first place picked among the first k, or k, and place k is taken in.
+fn sought(x: usize, k: usize, here: bool) -> usize
+    requires { ⌜ k < 2 ^ 32 ⌝ }
+    ensures { λ r. ⌜ r ≡ soughtOf x k here ⌝ }
+{
+    if x < k {
+        return x;
+    }
+    if here { k } else { k + 1 }
+}
+
+// ---- words
+
+// A word, repaired by the lent tables.
+fn repair_word(t: &[u16; 4096], positions: &[u8; 512], word: [u8; 16]) -> Repaired
+    requires { ⌜ Tables (now t) (now positions) ⌝ }
+    ensures { λ r. ⌜ r ≡ repairOf word ⌝ }
+{
+    hamming::repair_by(t, positions, word)
+}
+
+// Whether the checks were not zero: a repaired check bit counts too.
+fn is_found(f: Found) -> bool
+    ensures { λ r. ⌜ r ≡ found f ⌝ }
+{
+    match f {
+        Found::Clean => false,
+        Found::Turned(_) => true,
+        Found::Beyond => true,
+    }
+}
+
+fn all_zero(word: [u8; 16]) -> bool
+    ensures { λ r. ⌜ r ≡ allZero word ⌝ }
+{
+    for k in 0..16 {
+        if word[k] != 0 {
+            return false;
+        }
+    }
+    true
+}
+
+// Whether word w is filler, and not zero.
+fn is_filled(n: usize, w: usize, word: [u8; 16]) -> bool
+    ensures { λ r. ⌜ r ≡ (not (holds n w) && not (allZero word)) ⌝ }
+{
+    if line::holds_element(n, w) {
+        return false;
+    }
+    !all_zero(word)
+}
+
+fn one_if(b: bool) -> usize
+    ensures { λ r. ⌜ OneIf b r ⌝ }
+{
+    if b { 1 } else { 0 }
+}
+
+// Word w is taken in.
+fn take_word(
+    t: &[u16; 4096],
+    positions: &[u8; 512],
+    n: usize,
+    capture: &[u8],
+    w: usize,
+    s: WordTally,
+) -> WordTally
+    requires { ⌜ Tables (now t) (now positions) × (w < 2 ^ 32) × (s ≡ wordsTo n (now capture) w) ⌝ }
+    ensures { λ r. ⌜ r ≡ wordsTo n (now (capture .entry)) (w + 1) ⌝ }
+{
+    let received = line::word_in(capture, w);
+    let r = repair_word(t, positions, received);
+    let f = r.found;
+    let word = r.word;
+    WordTally {
+        beyond: sought(s.beyond, w, hamming::number(f) == 4),
+        filler: sought(s.filler, w, is_filled(n, w, word)),
+        seen: s.seen + one_if(is_found(f)),
+    }
+}
+
+// The pass over all words.
+fn tally_words(t: &[u16; 4096], positions: &[u8; 512], n: usize, capture: &[u8]) -> WordTally
+    requires { ⌜ Tables (now t) (now positions) × (n < 9) ⌝ }
+    ensures { λ r. ⌜ r ≡ wordsTo n (now (capture .entry)) (words n) ⌝ }
+{
+    let mut s = WordTally {
+        beyond: 0,
+        filler: 0,
+        seen: 0,
+    };
+    for w in 0..10976 * n + 480 {
+        s = take_word(t, positions, n, capture, w, s);
+    }
+    s
+}
+
+// ---- super frames
+
+// The slot of element e.
+fn slot(e: usize) -> usize
+    requires { ⌜ e < 2 ^ 32 ⌝ }
+    ensures { λ r. ⌜ r ≡ slotOf e ⌝ }
+{
+    e + 32 * (15 - e % 16)
+}
+
+// The word of element e, repaired.
+fn element(t: &[u16; 4096], positions: &[u8; 512], capture: &[u8], e: usize) -> [u8; 16]
+    requires { ⌜ Tables (now t) (now positions) × (e < 2 ^ 32) ⌝ }
+    ensures { λ r. ⌜ r ≡ repaired (now (capture .entry)) (slotOf e) ⌝ }
+{
+    let r = repair_word(t, positions, line::word_in(capture, slot(e)));
+    r.word
+}
+
+// The 119 bits of a, and then the first nine of b in place of the check bits: no byte of a super frame reaches further.
+fn follow(a: [u8; 16], b: [u8; 16]) -> [u8; 16]
+    ensures { λ r. ⌜ r ≡ followed a b ⌝ }
+{
+    let mut v = a;
+    let p = bits::wide(b[0]) * 2 + bits::wide(b[1]) / 128;
+    v[14] = v[14] / 2 * 2 + (p / 256) as u8;
+    v[15] = (p % 256) as u8;
+    v
+}
+
+// The bytes from bit i of v on, the scrambler's bytes added.
+fn put_bytes(v: &[u8; 16], i: usize, scr: &[u8], out: &mut [u8])
+    requires { ⌜ (i < 8) × (length (now scr) ≡ length (now out)) × (length (now out) ≤ 15) ⌝ }
+    ensures { λ _. ⌜ now (out .exit) ≡ tabulate (length (now (out .entry))) (plainByte (now (v .entry)) i (now (scr .entry))) ⌝ }
+{
+    for k in 0..out.len() {
+        out[k] = bits::byte_from(v, 8 * k + i) ^ scr[k];
+    }
+}
+
+// The bytes of super frame f, descrambled. Element l has 119 bits: it begins l mod 8 bits before its first whole byte.
+fn frame(
+    t: &[u16; 4096],
+    positions: &[u8; 512],
+    scr: &[u8],
+    capture: &[u8],
+    f: usize,
+    out: &mut [u8],
+)
+    requires { ⌜ Tables (now t) (now positions) × (now scr ≡ sequence) × (f < 8) × (length (now out) ≡ superBytes) ⌝ }
+    ensures { λ _. ⌜ now (out .exit) ≡ frameOf (now (capture .entry)) f ⌝ }
+{
+    let mut here = element(t, positions, capture, 10976 * f);
+    for l in 0..10976 {
+        let next = element(t, positions, capture, 10976 * f + (l + 1));
+        let a = 15 * l - l / 8;
+        let e = 15 * (l + 1) - (l + 1) / 8;
+        let v = follow(here, next);
+        put_bytes(&v, l % 8, &scr[a..e], &mut out[a..e]);
+        here = next;
+    }
+}
+
+// ---- FEC blocks, out of the bytes of a super frame
+
+// The bits of s from bit at on.
+fn copy_bits(s: &[u8], at: usize, out: &mut [u8])
+    requires { ⌜ (at < 2 ^ 32) × (length (now out) < 2 ^ 32) ⌝ }
+    ensures { λ _. ⌜ now (out .exit) ≡ pack (length (now (out .entry))) (from (bitAt (now (s .entry))) at) ⌝ }
+{
+    for k in 0..out.len() {
+        out[k] = bits::byte_from(s, at + 8 * k);
+    }
+}
+
+// The 32 bits from bit at on.
+fn long_from(s: &[u8], at: usize) -> u32
+    requires { ⌜ at < 2 ^ 32 ⌝ }
+    ensures { λ r. ⌜ r ≡ num 32 (bitAt (now (s .entry))) at ⌝ }
+{
+    let w = bits::word_from(s, at);
+    ((bits::wide(w[0]) * 256 + bits::wide(w[1])) * 256 + bits::wide(w[2])) * 256 + bits::wide(w[3])
+}
+
+// Whether the MBAS of block b, which is block t of the capture, is another number than expected.
+fn is_mbas_off(m0: u64, s: &[u8], t: usize, b: usize) -> bool
+    requires { ⌜ b < 5 ⌝ }
+    ensures { λ r. ⌜ r ≡ mbasOff m0 (now (s .entry)) t b ⌝ }
+{
+    bits::byte_from(s, 261086 * b + 244696) / 4 != line::mbas(m0, t as u64)
+}
+
+// The CRC of the information of block b.
+fn block_crc(crcs: &[u32; 256], s: &[u8], b: usize) -> u32
+    requires { ⌜ (now crcs ≡ entries) × (b < 5) ⌝ }
+    ensures { λ r. ⌜ r ≡ crcOf infoBits (from (bitAt (now (s .entry))) (fecBits * b)) ⌝ }
+{
+    let mut block = [0u8; 30583];
+    copy_bits(s, 261086 * b, &mut block);
+    crc::crc(crcs, &block)
+}
+
+fn is_crc_off(crcs: &[u32; 256], s: &[u8], b: usize) -> bool
+    requires { ⌜ (now crcs ≡ entries) × (b < 5) ⌝ }
+    ensures { λ r. ⌜ r ≡ crcOff (now (s .entry)) b ⌝ }
+{
+    long_from(s, 261086 * b + 244664) != block_crc(crcs, s, b)
+}
+
+// Whether a pad bit is not zero. The last of the 90 bytes reaches past the end, where there are zeros.
+fn is_pad_off(s: &[u8]) -> bool
+    requires { ⌜ length (now s) ≡ superBytes ⌝ }
+    ensures { λ r. ⌜ r ≡ padOff (now (s .entry)) ⌝ }
+{
+    for k in 0..90 {
+        if bits::byte_from(s, 1305430 + 8 * k) != 0 {
+            return true;
+        }
+    }
+    false
+}
+
+// Block b of super frame f is taken in.
+fn take_block(crcs: &[u32; 256], m0: u64, s: &[u8], f: usize, b: usize, x: BlockTally) -> BlockTally
+    requires { ⌜ (now crcs ≡ entries) × (f < 8) × (b < 5) ⌝ }
+    ensures { λ r. ⌜ r ≡ blockTaken m0 (now (s .entry)) f b x ⌝ }
+{
+    let t = 5 * f + b;
+    BlockTally {
+        mbas: sought(x.mbas, t, is_mbas_off(m0, s, t, b)),
+        crc: sought(x.crc, t, is_crc_off(crcs, s, b)),
+        pad: x.pad,
+    }
+}
+
+// The five blocks of super frame f.
+fn take_blocks(crcs: &[u32; 256], m0: u64, s: &[u8], f: usize, x: BlockTally) -> BlockTally
+    requires { ⌜ (now crcs ≡ entries) × (f < 8) ⌝ }
+    ensures { λ r. ⌜ r ≡ upto (blockTaken m0 (now (s .entry)) f) x 5 ⌝ }
+{
+    let mut y = x;
+    for b in 0..5 {
+        y = take_block(crcs, m0, s, f, b, y);
+    }
+    y
+}
+
+// Super frame f is taken in; its bytes go into the buffer lent.
+fn take_frame(
+    t: &[u16; 4096],
+    positions: &[u8; 512],
+    scr: &[u8],
+    crcs: &[u32; 256],
+    m0: u64,
+    capture: &[u8],
+    f: usize,
+    x: BlockTally,
+    buffer: &mut [u8],
+) -> BlockTally
+    requires { ⌜ Tables (now t) (now positions) × (now scr ≡ sequence) × (now crcs ≡ entries) × (f < 8) × (length (now buffer) ≡ superBytes) × (x ≡ framesTo m0 (now capture) f) ⌝ }
+    ensures { λ r. ⌜ r ≡ framesTo m0 (now (capture .entry)) (f + 1) ⌝ }
+{
+    frame(t, positions, scr, capture, f, buffer);
+    let y = take_blocks(crcs, m0, buffer, f, x);
+    BlockTally {
+        mbas: y.mbas,
+        crc: y.crc,
+        pad: sought(y.pad, f, is_pad_off(buffer)),
+    }
+}
+
+// The pass over all super frames.
+fn tally_frames(
+    t: &[u16; 4096],
+    positions: &[u8; 512],
+    scr: &[u8],
+    n: usize,
+    m0: u64,
+    capture: &[u8],
+    buffer: &mut [u8],
+) -> BlockTally
+    requires { ⌜ Tables (now t) (now positions) × (now scr ≡ sequence) × (n < 9) × (length (now buffer) ≡ superBytes) ⌝ }
+    ensures { λ r. ⌜ r ≡ framesTo m0 (now (capture .entry)) n ⌝ }
+{
+    let crcs = crc::table();
+    let mut x = BlockTally {
+        mbas: 0,
+        crc: 0,
+        pad: 0,
+    };
+    for f in 0..n {
+        x = take_frame(t, positions, scr, &crcs, m0, capture, f, x, buffer);
+    }
+    x
+}
+
+// ---- what is given back
+
+// The information and the parity of a super frame, out of its bytes.
+fn write_blocks(s: &[u8], info: &mut [u8], parity: &mut [u8])
+    requires { ⌜ (length (now info) ≡ infoLength 1) × (length (now parity) ≡ parityLength 1) ⌝ }
+    ensures { λ _. ⌜ (now (info .exit) ≡ pack (infoLength 1) (infoIn (now (s .entry)))) × (now (parity .exit) ≡ pack (parityLength 1) (parityIn (now (s .entry)))) ⌝ }
+{
+    for b in 0..5 {
+        let i = 30583 * b;
+        let p = 2048 * b;
+        copy_bits(s, 261086 * b, &mut info[i..i + 30583]);
+        copy_bits(s, 261086 * b + 244702, &mut parity[p..p + 2048]);
+    }
+}
+
+// All super frames, one after the other.
+fn write_frames(
+    t: &[u16; 4096],
+    positions: &[u8; 512],
+    scr: &[u8],
+    n: usize,
+    capture: &[u8],
+    buffer: &mut [u8],
+    info: &mut [u8],
+    parity: &mut [u8],
+)
+    requires { ⌜ Tables (now t) (now positions) × (now scr ≡ sequence) × (n < 9) × (length (now buffer) ≡ superBytes) × (length (now info) ≡ infoLength n) × (length (now parity) ≡ parityLength n) ⌝ }
+    ensures { λ _. ⌜ (now (info .exit) ≡ infoOf n (fecIn (repaired (now (capture .entry))))) × (now (parity .exit) ≡ parityOf n (fecIn (repaired (now (capture .entry))))) ⌝ }
+{
+    for f in 0..n {
+        let i = 152915 * f;
+        let p = 10240 * f;
+        frame(t, positions, scr, capture, f, buffer);
+        write_blocks(buffer, &mut info[i..i + 152915], &mut parity[p..p + 10240]);
+    }
+}

@@ -1,0 +1,63 @@
+-- What the small functions make of bytes: nine bits, thirty-two bits, copied bits and their CRC. Assumes nothing.
+use Prim.Native.Nat.{ℕ, _+_, _*_, _/_, _^_, _<_}
+use mathlib.Core.Path.{_≡_, refl, sym, ap, ap₂, _∙_}
+use mathlib.Core.List.{List}
+use native.Mathlib.Nat.{add-assoc}
+use native.Mathlib.Omega.{arith}
+use lib.Dec.{lit<}
+use lib.ListN.{length, getD}
+use Rattle.bits.specs.Bits.{tabulate, num, bitAt, byteOf, pack, from, Bits, Bytes}
+use Rattle.bits.proofs.Common.{by-bound}
+use Rattle.bits.proofs.Lists.{getD-tabulate, getD-past}
+use Rattle.bits.proofs.Numbers.{num-ext, num-lt, num-split, num-front}
+use Rattle.bits.proofs.Packing.{bitOf-lt, num-bitOf, bitOf-packs, length-packs}
+use Rattle.crc.specs.Crc.{crcOf}
+use Rattle.crc.specs.ByBytes.{entries, crcBy}
+use Rattle.crc.proofs.Bytewise.{bytes-crc}
+use Rattle.crc.proofs.Changes.{crc-ext}
+use Rattle.hamming.specs.declared.Repaired.{Repaired}
+use Rattle.hamming.specs.Repair.{repairOf}
+use Rattle.line.specs.Words.{wordIn}
+use Rattle.reader.specs.Read.{repaired}
+
+-- the first nine bits of b
+pub nine-of : (b : List ℕ) → Bytes b → getD b 0 0 * 2 + getD b 1 0 / 128 ≡ num 9 (bitAt b) 0
+nine-of b h =
+    ap₂ (λ (x y : ℕ). x * 2 + y) (sym (num-bitOf 8 b 0 (h 0)))
+    (ap (λ (x : ℕ). x / 128) (sym (num-bitOf 8 b 1 (h 1))) ∙ num-front 1 7 (bitAt b) 8 (bitOf-lt 8 b))
+    ∙ sym (num-split 8 1 (bitAt b) 0)
+
+-- thirty-two bits, out of the first four bytes of the bits from a on
+pub long-of : (f : ℕ → ℕ) (a : ℕ) (w : List ℕ) → w ≡ pack 16 (from f a)
+    → ((getD w 0 0 * 256 + getD w 1 0) * 256 + getD w 2 0) * 256 + getD w 3 0 ≡ num 32 f a
+long-of f a w e =
+    ap₂ (λ (x y : ℕ). x * 256 + y) (ap₂ (λ (x y : ℕ). x * 256 + y) (ap₂ (λ (x y : ℕ). x * 256 + y) (byte 0 (omega arith) ∙ at 0 a (omega arith)) (byte 1 (omega arith))) (byte 2 (omega arith))) (byte 3 (omega arith))
+    ∙ sym (num-split 24 8 f a ∙ ap (λ (x : ℕ). x * 256 + num 8 f (a + 24)) (num-split 16 8 f a ∙ ap (λ (x : ℕ). x * 256 + num 8 f (a + 16)) (num-split 8 8 f a)))
+  where
+    at : (k b : ℕ) → a + 8 * k ≡ b → num 8 f (a + 8 * k) ≡ num 8 f b
+    at k b q = ap (num 8 f) q
+
+    byte : (k : ℕ) → k < 16 → getD w k 0 ≡ num 8 f (a + 8 * k)
+    byte k h =
+        ap (λ (s : List ℕ). getD s k 0) e ∙ getD-tabulate 0 16 (byteOf (from f a)) k h
+        ∙ num-ext 8 (from f a) f (8 * k) (a + 8 * k) (λ j l. ap f (sym (add-assoc a (8 * k) j)))
+
+-- byte k of copied bits
+pub copied : (s : List ℕ) (at k x : ℕ) → x ≡ num 8 (bitAt s) (at + 8 * k) → x ≡ byteOf (from (bitAt s) at) k
+copied s at k x e = e ∙ num-ext 8 (bitAt s) (from (bitAt s) at) (at + 8 * k) (8 * k) (λ j l. ap (bitAt s) (add-assoc at (8 * k) j))
+
+packed-bytes : (n : ℕ) (g : ℕ → ℕ) → Bits g → Bytes (pack n g)
+packed-bytes n g b k =
+    by-bound n k (λ h. rw (getD-tabulate 0 n (byteOf g) k h) (num-lt 8 g (8 * k) b)) (λ h. rw (getD-past 0 n (byteOf g) k h) (lit< tt))
+
+-- the CRC of the bytes that n bytes of bits pack to
+pub crc-packed : (t s : List ℕ) (n : ℕ) (g : ℕ → ℕ) → Bits g → t ≡ entries → s ≡ pack n g → crcBy t s ≡ crcOf (8 * n) g
+crc-packed t s n g b et es =
+    ap (crcBy t) es ∙ bytes-crc t (pack n g) et (packed-bytes n g b)
+    ∙ ap (λ (x : ℕ). crcOf (8 * x) (bitAt (pack n g))) (length-packs 8 n g)
+    ∙ crc-ext (8 * n) (bitAt (pack n g)) g (λ i l. bitOf-packs 8 n g i b l)
+
+-- the word of what repair gives
+pub word-of : (cap : List ℕ) (w : ℕ) (r : Repaired) → r ≡ repairOf (wordIn cap w) → r .word ≡ repaired cap w
+unfolding repaired
+word-of cap w r e = ap (λ (x : Repaired). x .word) e

@@ -1,0 +1,179 @@
+-- The bytes of a super frame: out of its elements, a byte at once, and into information and parity. Assumes nothing.
+use Prim.Native.Nat.{ℕ, _+_, _-_, _*_, _/_, _%_, _≤_, _<_}
+use mathlib.Core.Path.{_≡_, refl, sym, ap, ap₂, _∙_}
+use mathlib.Core.List.{List}
+use native.Mathlib.Nat.{zero-add}
+use native.Mathlib.Omega.{arith}
+use lib.Bits.{bitXor}
+use borrow.Rule.Slice.PartMut.{putMid}
+use lib.ListN.{length, getD, take, drop, length-take, length-drop}
+use lib.Seq.{getD-take, getD-drop}
+use Rattle.bits.specs.Bits.{tabulate, num, digit, bitAt, byteOf, pack, from, added, Bits}
+use Rattle.bits.proofs.Common.{by-bound}
+use Rattle.bits.proofs.Lists.{getD-tabulate, tabulate-ext, Filled, filled-block}
+use Rattle.bits.proofs.Numbers.{num-ext, digit-num}
+use Rattle.bits.proofs.Packing.{bitOf-lt, bitOf-packs}
+use Rattle.bits.proofs.Xor.{num-xor}
+use Rattle.scrambler.specs.Scrambler.{o}
+use Rattle.scrambler.proofs.Rule.{o-lt}
+use Rattle.hamming.specs.Code.{joined}
+use Rattle.hamming.proofs.Words.{joined-low, joined-high, joined-bit}
+use Rattle.line.specs.Sizes.{infoBits, parityBits, parityFrom, fecBits, infoBytes, parityBytes, fecBlocks, superBits, superBytes, superElements}
+use Rattle.line.specs.Frames.{superFrom, fecFrom}
+use Rattle.line.specs.Slots.{slotOf}
+use Rattle.line.specs.Words.{elementFrom, superIn, fecIn}
+use Rattle.reader.specs.Read.{repaired}
+use Rattle.reader.specs.Parts.{sequence, frameOf, startOf, followed, plainByte, infoIn, parityIn}
+
+-- ---- bits
+
+pub super-lt : (W : ℕ → List ℕ) (f : ℕ) → Bits (superIn W f)
+unfolding superIn superFrom
+super-lt W f k = omega arith
+
+-- the bits of two words that follow each other
+followed-low : (a b : List ℕ) (x : ℕ) → x < 119 → bitAt (followed a b) x ≡ bitAt a x
+followed-low a b x h =
+    joined-bit (bitAt a) (num 9 (bitAt b) 0) x (bitOf-lt 8 a) (omega arith) ∙ joined-low (bitAt a) (num 9 (bitAt b) 0) x h
+
+followed-high : (a b : List ℕ) (x : ℕ) → 119 ≤ x → x < 128 → bitAt (followed a b) x ≡ bitAt b (x - 119)
+followed-high a b x l h =
+    let q : x ≡ 119 + (x - 119) = omega arith in
+    joined-bit (bitAt a) (num 9 (bitAt b) 0) x (bitOf-lt 8 a) h
+    ∙ ap (joined (bitAt a) (num 9 (bitAt b) 0)) q
+    ∙ joined-high (bitAt a) (num 9 (bitAt b) 0) (x - 119)
+    ∙ digit-num 9 (bitAt b) 0 (x - 119) (bitOf-lt 8 b) (omega arith)
+    ∙ ap (bitAt b) (zero-add (x - 119))
+
+-- ---- a super frame out of its elements
+
+module _ (W : ℕ → List ℕ) (f l : ℕ) where
+  abbrev pair : List ℕ
+  pair = followed (W (slotOf (10976 * f + l))) (W (slotOf (10976 * f + (l + 1))))
+
+  -- the 128 bits from the first bit of element l on: 119 of its word, nine of the next one's
+  super-bit : (x : ℕ) → x < 128 → superIn W f (119 * l + x) ≡ (bitAt pair x + o (119 * l + x)) % 2
+  unfolding superIn superFrom elementFrom
+  super-bit x h = by-bound 119 x low high
+    where
+      low : x < 119 → superIn W f (119 * l + x) ≡ (bitAt pair x + o (119 * l + x)) % 2
+      low m =
+          let p : (119 * l + x) / 119 ≡ l = omega arith in
+          let q : (119 * l + x) % 119 ≡ x = omega arith in
+          rw (p, q, followed-low (W (slotOf (10976 * f + l))) (W (slotOf (10976 * f + (l + 1)))) x m)
+
+      high : 119 ≤ x → superIn W f (119 * l + x) ≡ (bitAt pair x + o (119 * l + x)) % 2
+      high m =
+          let p : (119 * l + x) / 119 ≡ l + 1 = omega arith in
+          let q : (119 * l + x) % 119 ≡ x - 119 = omega arith in
+          rw (p, q, followed-high (W (slotOf (10976 * f + l))) (W (slotOf (10976 * f + (l + 1)))) x m h)
+
+  -- the same bits at their place in the super frame
+  placed : ℕ → ℕ
+  placed i = bitAt pair (i - 119 * l)
+
+  placed-lt : Bits placed
+  unfolding placed
+  placed-lt i = bitOf-lt 8 pair (i - 119 * l)
+
+  -- byte k from the first whole byte of element l on
+  plain-byte : (k : ℕ) → k < 15 → bitXor (num 8 (bitAt pair) (8 * k + l % 8)) (num 8 o (8 * (startOf l + k))) ≡ num 8 (superIn W f) (8 * (startOf l + k))
+  unfolding placed
+  plain-byte k h =
+      let p : 8 * (15 * l - l / 8 + k) ≡ 119 * l + (8 * k + l % 8) = omega arith in
+      ap (λ (x : ℕ). bitXor x (num 8 o (8 * (startOf l + k))))
+      (num-ext 8 (bitAt pair) placed (8 * k + l % 8) (8 * (startOf l + k)) (λ j m. ap (bitAt pair) (omega arith)))
+      ∙ num-xor 8 placed o (8 * (startOf l + k)) placed-lt o-lt
+      ∙ num-ext 8 (added placed o) (superIn W f) (8 * (startOf l + k)) (8 * (startOf l + k))
+      (λ j m.
+      let q : 8 * (15 * l - l / 8 + k) + j ≡ 119 * l + (8 * k + l % 8 + j) = omega arith in
+      let s : 8 * (15 * l - l / 8 + k) + j - 119 * l ≡ 8 * k + l % 8 + j = omega arith in
+      ap₂ (λ (x y : ℕ). (bitAt pair x + o y) % 2) s q ∙ sym (super-bit (8 * k + l % 8 + j) (omega arith)) ∙ ap (superIn W f) (sym q))
+
+-- byte k of those that begin in element l, as the code makes it out of the element's word and the next one's
+pub element-byte : (cap scr v : List ℕ) (f l n k : ℕ) → scr ≡ sequence → v ≡ pair (repaired cap) f l → l < superElements → n ≡ startOf (l + 1) - startOf l → k < n
+    → plainByte v (l % 8) (take n (drop (startOf l) scr)) k ≡ byteOf (superIn (repaired cap) f) (startOf l + k)
+unfolding plainByte
+element-byte cap scr v f l n k es ev hl en h =
+    ap₂ bitXor (ap (λ (s : List ℕ). num 8 (bitAt s) (8 * k + l % 8)) ev)
+    (getD-take n (drop (startOf l) scr) k 0 h ∙ getD-drop (startOf l) scr k 0
+    ∙ ap (λ (s : List ℕ). getD s (startOf l + k) 0) es
+    ∙ getD-tabulate 0 superBytes (byteOf o) (startOf l + k) (omega arith))
+    ∙ plain-byte (repaired cap) f l k (omega arith)
+
+-- ---- FEC blocks in a super frame
+
+pub frame-bit : (cap : List ℕ) (f i : ℕ) → i < superBits → bitAt (frameOf cap f) i ≡ superIn (repaired cap) f i
+frame-bit cap f i h = bitOf-packs 8 superBytes (superIn (repaired cap) f) i (super-lt (repaired cap) f) h
+
+pub fec-at : (W : ℕ → List ℕ) (f b i : ℕ) → b < fecBlocks → fecIn W (fecBlocks * f + b) i ≡ superIn W f (fecBits * b + i)
+unfolding fecIn fecFrom
+fec-at W f b i h =
+    let p : (fecBlocks * f + b) / fecBlocks ≡ f = omega arith in
+    let q : (fecBlocks * f + b) % fecBlocks ≡ b = omega arith in
+    rw (p, q)
+
+pub frame-fec : (cap : List ℕ) (f b i : ℕ) → b < fecBlocks → i < fecBits → bitAt (frameOf cap f) (fecBits * b + i) ≡ fecIn (repaired cap) (fecBlocks * f + b) i
+frame-fec cap f b i h l = frame-bit cap f (fecBits * b + i) (omega arith) ∙ sym (fec-at (repaired cap) f b i h)
+
+-- ---- information and parity
+
+-- byte k of block b's, out of a super frame
+pub info-byte : (s : List ℕ) (b k : ℕ) → k < infoBytes → byteOf (from (bitAt s) (261086 * b)) k ≡ byteOf (infoIn s) (30583 * b + k)
+unfolding infoIn
+info-byte s b k h =
+    num-ext 8 (from (bitAt s) (261086 * b)) (infoIn s) (8 * k) (8 * (30583 * b + k))
+    (λ j m.
+    let p : (8 * (30583 * b + k) + j) / 244664 ≡ b = omega arith in
+    let q : (8 * (30583 * b + k) + j) % 244664 ≡ 8 * k + j = omega arith in
+    rw (p, q))
+
+pub parity-byte : (s : List ℕ) (b k : ℕ) → k < parityBytes → byteOf (from (bitAt s) (261086 * b + 244702)) k ≡ byteOf (parityIn s) (2048 * b + k)
+unfolding parityIn
+parity-byte s b k h =
+    num-ext 8 (from (bitAt s) (261086 * b + 244702)) (parityIn s) (8 * k) (8 * (2048 * b + k))
+    (λ j m.
+    let p : (8 * (2048 * b + k) + j) / 16384 ≡ b = omega arith in
+    let q : (8 * (2048 * b + k) + j) % 16384 ≡ 8 * k + j = omega arith in
+    rw (p, q) (ap (bitAt s) (omega arith)))
+
+-- bit j of the information, and of the parity, of FEC blocks with the bits F
+abbrev pub infoAll : (ℕ → ℕ → ℕ) → ℕ → ℕ
+infoAll F j = F (j / infoBits) (j % infoBits)
+
+abbrev pub parityAll : (ℕ → ℕ → ℕ) → ℕ → ℕ
+parityAll F j = F (j / parityBits) (parityFrom + j % parityBits)
+
+-- byte k of super frame f's, in the whole
+pub info-whole : (cap s : List ℕ) (f k : ℕ) → s ≡ frameOf cap f → k < 152915 → byteOf (infoIn s) k ≡ byteOf (infoAll (fecIn (repaired cap))) (152915 * f + k)
+unfolding infoIn
+info-whole cap s f k e h =
+    ap (λ (l : List ℕ). byteOf (infoIn l) k) e
+    ∙ num-ext 8 (infoIn (frameOf cap f)) (infoAll (fecIn (repaired cap))) (8 * k) (8 * (152915 * f + k))
+    (λ j m.
+    let p : (8 * (152915 * f + k) + j) / 244664 ≡ 5 * f + (8 * k + j) / 244664 = omega arith in
+    let q : (8 * (152915 * f + k) + j) % 244664 ≡ (8 * k + j) % 244664 = omega arith in
+    frame-fec cap f ((8 * k + j) / 244664) ((8 * k + j) % 244664) (omega arith) (omega arith)
+    ∙ sym (ap₂ (fecIn (repaired cap)) p q))
+
+pub parity-whole : (cap s : List ℕ) (f k : ℕ) → s ≡ frameOf cap f → k < 10240 → byteOf (parityIn s) k ≡ byteOf (parityAll (fecIn (repaired cap))) (10240 * f + k)
+unfolding parityIn
+parity-whole cap s f k e h =
+    ap (λ (l : List ℕ). byteOf (parityIn l) k) e
+    ∙ num-ext 8 (parityIn (frameOf cap f)) (parityAll (fecIn (repaired cap))) (8 * k) (8 * (10240 * f + k))
+    (λ j m.
+    let p : (8 * (10240 * f + k) + j) / 16384 ≡ 5 * f + (8 * k + j) / 16384 = omega arith in
+    let q : (8 * (10240 * f + k) + j) % 16384 ≡ (8 * k + j) % 16384 = omega arith in
+    frame-fec cap f ((8 * k + j) / 16384) (244702 + (8 * k + j) % 16384) (omega arith) (omega arith)
+    ∙ sym (ap₂ (λ (x y : ℕ). fecIn (repaired cap) x (parityFrom + y)) p q))
+
+-- ---- a part that a callee filled
+
+pub part-long : (a k : ℕ) (s : List ℕ) → a + k ≤ length s → length (take k (drop a s)) ≡ k
+part-long a k s h = simp (length-take, length-drop) (omega arith)
+
+-- the callee's m elements are h, which is f from a on
+pub filled-part : {a : ℕ} {f : ℕ → ℕ} {d out : List ℕ} (k e : ℕ) {ys : List ℕ} (m : ℕ) (h : ℕ → ℕ) → Filled a f d out → e ≡ a + k → e ≤ length d → m ≡ k → ys ≡ tabulate m h
+    → ((j : ℕ) → j < k → h j ≡ f (a + j)) → Filled e f d (putMid a k out ys)
+filled-part {a} {f} k e m h i p l q y each =
+    filled-block k e i p l (y ∙ ap (λ (n : ℕ). tabulate n h) q ∙ tabulate-ext k h (λ j. f (a + j)) each)

@@ -1,0 +1,55 @@
+-- `reader::all_zero` meets its contract. Assumes nothing.
+use borrow.Author.Needs.{needs}
+use Prim.Native.Nat.{ℕ, _-_}
+use mathlib.Core.Bool.{not}
+use native.Mathlib.Omega.{arith}
+use lib.Dec.{eqb}
+use lib.ListN.{getD}
+use Rattle.bits.proofs.LoopLaws.{Passed, passed-more, loops}
+use borrow.Author.Tests.{eq-eqb}
+use Rattle.reader.proofs.Searching.{zero-all, zero-not, someAt, some-none, some-all}
+use Rattle.reader.proofs.all_zero.Statement.{statement}
+use Rattle.reader.proofs.all_zero.Tie as tie
+use Rattle.reader.proofs.all_zero.Reads as reads
+use Rattle.reader.proofs.all_zero.Lts as lts
+
+abbrev Inv-loop : tie.InvT-loop
+Inv-loop word k₀ k = Passed k (someAt word) 16
+
+abbrev μ-loop : tie.MeasureT-loop
+μ-loop word k₀ k = 16 - k
+
+loop-holds : tie.Need-loop-holds Inv-loop μ-loop
+loop-holds c = search loops
+
+array-read-if1 : tie.Need-array-read-if1 Inv-loop μ-loop
+array-read-if1 c = search loops
+
+returns : tie.Need-returns Inv-loop μ-loop
+returns c = zero-not (c .before .before .before .args .t1) (c .before .before .loop .k) (search needs) (c .if1 .taken)
+
+add-k : tie.Need-add-k Inv-loop μ-loop
+add-k c = search loops
+
+loop-less : tie.Need-loop-less Inv-loop μ-loop
+loop-less c = search loops
+
+loop-again : tie.Need-loop-again Inv-loop μ-loop
+loop-again c = passed-more (c .before .before .loop .inv) (c .before .loop-test .taken) (some-none (c .before .before .before .args .t1) (c .before .before .loop .k) (c .if1 .left))
+
+returns-2 : tie.Need-returns-2 Inv-loop μ-loop
+returns-2 c = some-all (c .before .before .args .t1) (search needs) (c .before .loop .inv) (c .loop-test .left)
+
+pub all-zero-spec : {M : Type 1} → statement M
+all-zero-spec =
+    tie.close
+    (tie.spec
+    Inv-loop
+    μ-loop
+    loop-holds
+    array-read-if1
+    returns
+    add-k
+    loop-less
+    loop-again
+    returns-2)

@@ -1,0 +1,47 @@
+-- `reader::block_crc` meets its contract. Assumes nothing.
+use Prim.Native.Nat.{_+_}
+use Prim.Native.Nat.{_*_}
+use mathlib.Core.Path.{_∙_}
+use denote.Ref.{now}
+use Rattle.bits.specs.Bits.{bitAt, from}
+use Rattle.bits.proofs.Packing.{bitOf-lt}
+use Rattle.reader.proofs.Pieces.{crc-packed}
+use borrow.Author.Needs.{needs}
+use Rattle.reader.proofs.block_crc.Statement.{statement}
+use Rattle.reader.proofs.block_crc.Tie as tie
+use Rattle.reader.proofs.block_crc.Reads as reads
+use Rattle.reader.proofs.block_crc.Lts as lts
+use Rattle.crc.proofs.crc.Reads as crc-reads
+use Rattle.reader.proofs.copy_bits.Reads as copy-bits-reads
+
+mul-copy-bits : tie.Need-mul-copy-bits
+mul-copy-bits c = search needs
+
+slice-aggregate-copy-bits : tie.Need-slice-aggregate-copy-bits
+slice-aggregate-copy-bits c = search needs
+
+copy-bits-requires : tie.Need-copy-bits-requires
+copy-bits-requires c κs = search needs
+
+slice-aggregate-crc : tie.Need-slice-aggregate-crc
+slice-aggregate-crc c = search needs
+
+crc-requires : tie.Need-crc-requires
+crc-requires c κs = search needs
+
+returns : tie.Need-returns
+returns c =
+    let s = c .before .before .before .before .before .before in
+    let a = s .args in
+    c .crc .ensures ∙ crc-packed (now (a .crcs)) _ 30583 (from (bitAt (now (a .s))) (261086 * a .b)) (λ i. bitOf-lt 8 (now (a .s)) (261086 * a .b + i)) (s .pre .0) (c .before .before .before .copy-bits .ensures)
+
+pub block-crc-spec : {M : Type 1} → statement M
+block-crc-spec =
+    tie.close
+    (tie.spec
+    mul-copy-bits
+    slice-aggregate-copy-bits
+    copy-bits-requires
+    slice-aggregate-crc
+    crc-requires
+    returns)

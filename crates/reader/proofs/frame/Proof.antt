@@ -1,0 +1,161 @@
+-- `reader::frame` meets its contract: before element l the bytes that begin in the elements before it are there. Assumes nothing.
+use Prim.Native.Nat.{ℕ, _%_}
+use mathlib.Core.Path.{refl, ap₂}
+use lib.ListN.{take, drop}
+use Rattle.bits.proofs.Packing.{length-packs}
+use Rattle.scrambler.specs.Scrambler.{o}
+use Rattle.reader.specs.Parts.{followed, plainByte}
+use Rattle.reader.proofs.Places.{element-byte, part-long, filled-part}
+use Prim.Native.Nat.{_+_, _-_, _*_, _/_, _≤_}
+use mathlib.Core.Path.{_≡_, ap, _∙_}
+use native.Mathlib.Omega.{arith}
+use denote.Ref.{now}
+use lib.ListN.{length}
+use borrow.Author.Needs.{needs}
+use Rattle.bits.specs.Bits.{byteOf}
+use Rattle.bits.proofs.Lists.{Filled, filled-none, filled-block, filled-all}
+use Rattle.line.specs.Slots.{slotOf}
+use Rattle.line.specs.Words.{superIn}
+use Rattle.reader.specs.Read.{repaired}
+use Rattle.reader.specs.Parts.{startOf}
+use Rattle.reader.proofs.frame.Statement.{statement}
+use Rattle.reader.proofs.frame.Tie as tie
+use Rattle.reader.proofs.frame.Reads as reads
+use Rattle.reader.proofs.frame.Lts as lts
+use Rattle.reader.proofs.element.Reads as element-reads
+use Rattle.reader.proofs.follow.Reads as follow-reads
+use Rattle.reader.proofs.put_bytes.Reads as put-bytes-reads
+
+abbrev Inv-loop : tie.InvT-loop
+Inv-loop t positions scr capture f out₀ here₀ l₀ out here l = Filled (startOf l) (byteOf (superIn (repaired capture) f)) out₀ out × (here ≡ repaired capture (slotOf (10976 * f + l))) × (l ≤ 10976)
+
+abbrev μ-loop : tie.MeasureT-loop
+μ-loop t positions scr capture f out₀ here₀ l₀ out here l = 10976 - l
+
+mul-element : tie.Need-mul-element Inv-loop μ-loop
+mul-element c = search needs
+
+element-requires : tie.Need-element-requires Inv-loop μ-loop
+element-requires c κs = search needs
+
+loop-holds : tie.Need-loop-holds Inv-loop μ-loop
+loop-holds c = (filled-none, c .element .ensures ∙ ap (λ (e : ℕ). repaired (now (c .before .before .before .before .args .capture)) (slotOf e)) (omega arith), omega arith)
+
+mul-element-2 : tie.Need-mul-element-2 Inv-loop μ-loop
+mul-element-2 c = search needs
+
+add-element : tie.Need-add-element Inv-loop μ-loop
+add-element c = search needs
+
+add-element-2 : tie.Need-add-element-2 Inv-loop μ-loop
+add-element-2 c = search needs
+
+element-requires-2 : tie.Need-element-requires-2 Inv-loop μ-loop
+element-requires-2 c κs = search needs
+
+mul-a : tie.Need-mul-a Inv-loop μ-loop
+mul-a c = search needs
+
+sub-a : tie.Need-sub-a Inv-loop μ-loop
+sub-a c = search needs
+
+add-e : tie.Need-add-e Inv-loop μ-loop
+add-e c = search needs
+
+mul-e : tie.Need-mul-e Inv-loop μ-loop
+mul-e c = search needs
+
+add-e-2 : tie.Need-add-e-2 Inv-loop μ-loop
+add-e-2 c = search needs
+
+sub-e : tie.Need-sub-e Inv-loop μ-loop
+sub-e c = search needs
+
+follow-requires : tie.Need-follow-requires Inv-loop μ-loop
+follow-requires c κs = search needs
+
+sub-put-bytes : tie.Need-sub-put-bytes Inv-loop μ-loop
+sub-put-bytes c = search needs
+
+part-put-bytes-start : tie.Need-part-put-bytes-start Inv-loop μ-loop
+part-put-bytes-start c = search needs
+
+part-put-bytes-end : tie.Need-part-put-bytes-end Inv-loop μ-loop
+part-put-bytes-end c =
+    let s = c .before .before .before .before .before .before .before .before .before in
+    let h : length (now (s .args .scr)) ≡ 163268 = ap length (s .pre .1) ∙ length-packs 8 163268 o in search needs
+
+sub-put-bytes-2 : tie.Need-sub-put-bytes-2 Inv-loop μ-loop
+sub-put-bytes-2 c = search needs
+
+part-put-bytes-start-2 : tie.Need-part-put-bytes-start-2 Inv-loop μ-loop
+part-put-bytes-start-2 c = search needs
+
+part-put-bytes-end-2 : tie.Need-part-put-bytes-end-2 Inv-loop μ-loop
+part-put-bytes-end-2 c = search needs
+
+put-bytes-requires : tie.Need-put-bytes-requires Inv-loop μ-loop
+put-bytes-requires c κs = search needs
+
+add-l : tie.Need-add-l Inv-loop μ-loop
+add-l c = search needs
+
+loop-less : tie.Need-loop-less Inv-loop μ-loop
+loop-less c = search needs
+
+loop-again : tie.Need-loop-again Inv-loop μ-loop
+loop-again c =
+    let h = c .before .before .before .before .before .before .before .before .before .loop in
+    let s = c .before .before .before .before .before .before .before .before .before .before .before .before .before .before in
+    let a = s .args in
+    let k = startOf (h .l + 1) - startOf (h .l) in
+    let cap = now (a .capture) in
+    let scr = now (a .scr) in
+    let v = c .before .before .before .before .before .before .follow in
+    let e = c .before .before .before .before .before .before .before .element2 .ensures in
+    let len : length (take k (drop (startOf (h .l)) (h .out))) ≡ k = part-long (startOf (h .l)) k (h .out) (omega arith) in (
+      filled-part k (startOf (h .l + 1)) (length (take k (drop (startOf (h .l)) (h .out)))) (plainByte (v .result) (h .l % 8) (take k (drop (startOf (h .l)) scr)))
+          (h .inv .0) (omega arith) (omega arith) len (c .before .before .put-bytes .ensures)
+          (λ j l. element-byte cap scr (v .result) (a .f) (h .l) k j (s .pre .1) (v .ensures ∙ ap₂ followed (h .inv .1) e) (c .before .before .before .before .before .before .before .before .loop-test .taken) refl l),
+      e,
+      omega arith,
+    )
+
+same-length : tie.Need-same-length Inv-loop μ-loop
+same-length c = search needs
+
+returns : tie.Need-returns Inv-loop μ-loop
+returns c = filled-all 163268 (c .before .loop .inv .0) (omega arith) (search needs)
+
+pub frame-spec : {M : Type 1} → statement M
+frame-spec =
+    tie.close
+    (tie.spec
+    Inv-loop
+    μ-loop
+    mul-element
+    element-requires
+    loop-holds
+    mul-element-2
+    add-element
+    add-element-2
+    element-requires-2
+    mul-a
+    sub-a
+    add-e
+    mul-e
+    add-e-2
+    sub-e
+    follow-requires
+    sub-put-bytes
+    part-put-bytes-start
+    part-put-bytes-end
+    sub-put-bytes-2
+    part-put-bytes-start-2
+    part-put-bytes-end-2
+    put-bytes-requires
+    add-l
+    loop-less
+    loop-again
+    same-length
+    returns)

@@ -1,0 +1,48 @@
+-- `reader::take_frame` meets its contract. Assumes nothing.
+use mathlib.Core.Path.{ap, _∙_}
+use denote.Ref.{now}
+use Rattle.reader.specs.Parts.{soughtOf}
+use Rattle.reader.proofs.Blocks.{frame-more}
+use borrow.Author.Needs.{needs}
+use Rattle.reader.proofs.take_frame.Statement.{statement}
+use Rattle.reader.proofs.take_frame.Tie as tie
+use Rattle.reader.proofs.take_frame.Reads as reads
+use Rattle.reader.proofs.take_frame.Lts as lts
+use Rattle.reader.proofs.frame.Reads as frame-reads
+use Rattle.reader.proofs.is_pad_off.Reads as is-pad-off-reads
+use Rattle.reader.proofs.sought.Reads as sought-reads
+use Rattle.reader.proofs.take_blocks.Reads as take-blocks-reads
+
+frame-requires : tie.Need-frame-requires
+frame-requires c κs = search needs
+
+take-blocks-requires : tie.Need-take-blocks-requires
+take-blocks-requires c κs = search needs
+
+is-pad-off-requires : tie.Need-is-pad-off-requires
+is-pad-off-requires c κs = search needs
+
+sought-requires : tie.Need-sought-requires
+sought-requires c κs = search needs
+
+same-length : tie.Need-same-length
+same-length c = search needs
+
+returns : tie.Need-returns
+returns c =
+    let s = c .before .before .before .before .before .before .before .before .before .before .before .before in
+    let a = s .args in
+    let y = c .before .before .before .take-blocks in
+    frame-more (a .m0) (now (a .capture)) _ (a .f) (a .x) (y .result) (c .sought .result) (c .before .before .before .before .before .before .before .frame .ensures) (s .pre .5) (y .ensures)
+    (c .sought .ensures ∙ ap (soughtOf (y .result .pad) (a .f)) (c .before .is-pad-off .ensures))
+
+pub take-frame-spec : {M : Type 1} → statement M
+take-frame-spec =
+    tie.close
+    (tie.spec
+    frame-requires
+    take-blocks-requires
+    is-pad-off-requires
+    sought-requires
+    same-length
+    returns)

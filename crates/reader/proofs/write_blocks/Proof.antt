@@ -1,0 +1,132 @@
+-- `reader::write_blocks` meets its contract: a block a turn. Assumes nothing.
+use lib.ListN.{length, take, drop}
+use Rattle.bits.specs.Bits.{bitAt, from}
+use Rattle.reader.proofs.Places.{info-byte, parity-byte, part-long, filled-part}
+use Prim.Native.Nat.{_+_, _-_, _*_, _≤_}
+use mathlib.Core.Path.{_≡_, ap, _∙_}
+use native.Mathlib.Omega.{arith}
+use denote.Ref.{now}
+use borrow.Author.Needs.{needs}
+use Rattle.bits.specs.Bits.{byteOf}
+use Rattle.bits.proofs.Lists.{Filled, filled-none, filled-block, filled-all}
+use Rattle.reader.specs.Parts.{infoIn, parityIn}
+use Rattle.reader.proofs.write_blocks.Statement.{statement}
+use Rattle.reader.proofs.write_blocks.Tie as tie
+use Rattle.reader.proofs.write_blocks.Reads as reads
+use Rattle.reader.proofs.write_blocks.Lts as lts
+use Rattle.reader.proofs.copy_bits.Reads as copy-bits-reads
+
+abbrev Inv-loop : tie.InvT-loop
+Inv-loop s info₀ parity₀ b₀ info parity b = Filled (30583 * b) (byteOf (infoIn s)) info₀ info × Filled (2048 * b) (byteOf (parityIn s)) parity₀ parity × (b ≤ 5)
+
+abbrev μ-loop : tie.MeasureT-loop
+μ-loop s info₀ parity₀ b₀ info parity b = 5 - b
+
+loop-holds : tie.Need-loop-holds Inv-loop μ-loop
+loop-holds c = (filled-none, filled-none, omega arith)
+
+mul-i : tie.Need-mul-i Inv-loop μ-loop
+mul-i c = search needs
+
+mul-p : tie.Need-mul-p Inv-loop μ-loop
+mul-p c = search needs
+
+mul-copy-bits : tie.Need-mul-copy-bits Inv-loop μ-loop
+mul-copy-bits c = search needs
+
+add-copy-bits : tie.Need-add-copy-bits Inv-loop μ-loop
+add-copy-bits c = search needs
+
+sub-copy-bits : tie.Need-sub-copy-bits Inv-loop μ-loop
+sub-copy-bits c = search needs
+
+part-copy-bits-start : tie.Need-part-copy-bits-start Inv-loop μ-loop
+part-copy-bits-start c = search needs
+
+part-copy-bits-end : tie.Need-part-copy-bits-end Inv-loop μ-loop
+part-copy-bits-end c = search needs
+
+copy-bits-requires : tie.Need-copy-bits-requires Inv-loop μ-loop
+copy-bits-requires c κs = search needs
+
+mul-copy-bits-2 : tie.Need-mul-copy-bits-2 Inv-loop μ-loop
+mul-copy-bits-2 c = search needs
+
+add-copy-bits-2 : tie.Need-add-copy-bits-2 Inv-loop μ-loop
+add-copy-bits-2 c = search needs
+
+add-copy-bits-3 : tie.Need-add-copy-bits-3 Inv-loop μ-loop
+add-copy-bits-3 c = search needs
+
+sub-copy-bits-2 : tie.Need-sub-copy-bits-2 Inv-loop μ-loop
+sub-copy-bits-2 c = search needs
+
+part-copy-bits-start-2 : tie.Need-part-copy-bits-start-2 Inv-loop μ-loop
+part-copy-bits-start-2 c = search needs
+
+part-copy-bits-end-2 : tie.Need-part-copy-bits-end-2 Inv-loop μ-loop
+part-copy-bits-end-2 c = search needs
+
+copy-bits-requires-2 : tie.Need-copy-bits-requires-2 Inv-loop μ-loop
+copy-bits-requires-2 c κs = search needs
+
+add-b : tie.Need-add-b Inv-loop μ-loop
+add-b c = search needs
+
+loop-less : tie.Need-loop-less Inv-loop μ-loop
+loop-less c = search needs
+
+loop-again : tie.Need-loop-again Inv-loop μ-loop
+loop-again c =
+    let h = c .before .before .before .before .before .before .before .before .before .loop in
+    let s = now (c .before .before .before .before .before .before .before .before .before .before .before .before .before .args .s) in
+    let i = 30583 * h .b in
+    let p = 2048 * h .b in
+    let ki = i + 30583 - i in
+    let kp = p + 2048 - p in (
+      filled-part ki (30583 * (h .b + 1)) (length (take ki (drop i (h .info)))) (byteOf (from (bitAt s) (261086 * h .b)))
+          (h .inv .0) (omega arith) (omega arith) (part-long i ki (h .info) (omega arith)) (c .before .before .before .before .before .before .copy-bits .ensures) (λ j l. info-byte s (h .b) j (omega arith)),
+      filled-part kp (2048 * (h .b + 1)) (length (take kp (drop p (h .parity)))) (byteOf (from (bitAt s) (261086 * h .b + 244702)))
+          (h .inv .1) (omega arith) (omega arith) (part-long p kp (h .parity) (omega arith)) (c .before .before .copy-bits2 .ensures) (λ j l. parity-byte s (h .b) j (omega arith)),
+      omega arith,
+    )
+
+same-length : tie.Need-same-length Inv-loop μ-loop
+same-length c = search needs
+
+same-length-2 : tie.Need-same-length-2 Inv-loop μ-loop
+same-length-2 c = search needs
+
+returns : tie.Need-returns Inv-loop μ-loop
+returns c =
+    let i = c .before .loop .inv in
+    (filled-all 152915 (i .0) (omega arith) (search needs), filled-all 10240 (i .1) (omega arith) (search needs))
+
+pub write-blocks-spec : {M : Type 1} → statement M
+write-blocks-spec =
+    tie.close
+    (tie.spec
+    Inv-loop
+    μ-loop
+    loop-holds
+    mul-i
+    mul-p
+    mul-copy-bits
+    add-copy-bits
+    sub-copy-bits
+    part-copy-bits-start
+    part-copy-bits-end
+    copy-bits-requires
+    mul-copy-bits-2
+    add-copy-bits-2
+    add-copy-bits-3
+    sub-copy-bits-2
+    part-copy-bits-start-2
+    part-copy-bits-end-2
+    copy-bits-requires-2
+    add-b
+    loop-less
+    loop-again
+    same-length
+    same-length-2
+    returns)
