@@ -1,0 +1,7 @@
+-- The laws of `specs/`.
+pub mod Residues
+pub mod Stretches
+pub mod Ends
+pub mod Asked
+pub mod Floor
+pub mod Unique
