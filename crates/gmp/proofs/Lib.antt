@@ -4,4 +4,9 @@ pub mod Stretches
 pub mod Ends
 pub mod Asked
 pub mod Floor
+pub mod Counts
+pub mod Pairs
+pub mod Judging
+pub mod Spares
+pub mod Filling
 pub mod Unique

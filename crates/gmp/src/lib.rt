@@ -1,10 +1,13 @@
 // GMP places, their runs, and payload windows: document 01, "GMP places".
 ghost use mathlib.Core.Path.{_≡_};
 ghost use mathlib.Core.Bool.{true, false};
-ghost use Prim.Native.Nat.{_≤_, _<_};
-ghost use Rattle.gmp.specs.Places.{isData, Place};
+ghost use Prim.Native.Nat.{suc, _+_, _*_, _/_, _≤_, _<_};
+ghost use lib.ListN.{length};
+ghost use Rattle.bits.specs.Bits.{num, byteOf, pack, tabulate};
+ghost use Rattle.gmp.specs.Places.{places, groupBits, isData, Place};
 ghost use Rattle.gmp.specs.Runs.{lastOfRun, runsFrom};
-ghost use Rattle.gmp.specs.Answers.{outsidePlace, told, runOf, runsOf};
+ghost use Rattle.gmp.specs.Answers.{outsidePlace, told, runOf, runsOf, mapAnswer, unmapAnswer, Mapped, Unmapped};
+ghost use Rattle.gmp.specs.Windows.{groupBytes, windowBytes, outsideWindow, Window, Stretch, DataIn, windowBit, groupPlace, groupsBit, spareSet, piece, pairBit};
 
 mod told;
 
@@ -14,6 +17,11 @@ pub use told::Run;
 
 // The places of an envelope are 1 to PLACES.
 const PLACES: u64 = 10220;
+
+// A place has four blocks of 257 bits; two places are 257 bytes.
+const GROUP_BITS: usize = 1028;
+
+const PAIR_BYTES: usize = 257;
 
 // The kind of place j and the last place of its run.
 pub fn run(c: u64, j: u64) -> Run
@@ -51,6 +59,17 @@ pub fn runs(c: u64, j: u64) -> Answer
         return answer::granted(data_runs(c, j));
     }
     answer::granted(stuff_runs(c, j))
+}
+
+// Writes the data groups into their places of a window, and zeros into stuff.
+pub fn map(c: u64, f: u64, n: u64, groups: &[u8], window: &mut [u8]) -> Answer
+    ensures { λ r. ⌜ Mapped c f n (now (groups .entry)) (now (window .entry)) r (now (window .exit)) ⌝ }
+{
+    let answer = map_answer(c, f, n, groups, window.len());
+    if answer.number == 0 {
+        fill_window(c, f, n, groups, window);
+    }
+    answer
 }
 
 // Whether c is no count or j no place.
@@ -117,4 +136,121 @@ fn stuff_runs(c: u64, j: u64) -> u64
         return 1;
     }
     1 + data_runs(c, last + 1)
+}
+
+// Whether c, f and n are no count and window.
+fn outside_window(c: u64, f: u64, n: u64) -> bool
+    ensures { λ r. ⌜ r ≡ outsideWindow c f n ⌝ }
+{
+    if PLACES < c {
+        return true;
+    }
+    if f % 2 == 0 {
+        return true;
+    }
+    if n % 2 == 1 {
+        return true;
+    }
+    if n < 2 {
+        return true;
+    }
+    // f + n could wrap, so n is taken to the other side.
+    if PLACES < n {
+        return true;
+    }
+    PLACES - n + 1 < f
+}
+
+// How many of the n places from f on are data.
+fn data_in(c: u64, f: u64, n: u64) -> u64
+    requires { ⌜ Stretch c f n ⌝ }
+    ensures { λ r. ⌜ DataIn c f n r ⌝ }
+{
+    (f - 1 + n) * c / PLACES - (f - 1) * c / PLACES
+}
+
+// Whether there is an odd number of groups and one of the last four bits is set.
+fn spare_set(d: u64, groups: &[u8]) -> bool
+    requires { ⌜ d ≤ places ⌝ }
+    ensures { λ r. ⌜ r ≡ spareSet d (now (groups .entry)) ⌝ }
+{
+    if d % 2 == 0 {
+        return false;
+    }
+    bits::byte_from(groups, GROUP_BITS * (d as usize)) / 16 != 0
+}
+
+// What `map` answers.
+fn map_answer(c: u64, f: u64, n: u64, groups: &[u8], window: usize) -> Answer
+    ensures { λ r. ⌜ r ≡ mapAnswer c f n (now (groups .entry)) window ⌝ }
+{
+    if outside_window(c, f, n) {
+        return answer::refuse(answer::OUTSIDE_SET, 0);
+    }
+    let d = data_in(c, f, n);
+    if groups.len() as u64 != (257 * d + 1) / 2 {
+        return answer::refuse(answer::WRONG_LENGTH, answer::buffer_place(1));
+    }
+    if window as u64 != 257 * n / 2 {
+        return answer::refuse(answer::WRONG_LENGTH, answer::buffer_place(2));
+    }
+    if spare_set(d, groups) {
+        return answer::refuse(answer::SPARE_BIT, answer::buffer_place(1));
+    }
+    answer::granted(d)
+}
+
+// Eight bits of s from bit `at` on, or zeros where they are not wanted.
+fn eight(s: &[u8], on: bool, at: usize) -> u8
+    ensures { λ r. ⌜ r ≡ num 8 (piece (now (s .entry)) on) at ⌝ }
+{
+    if on { bits::byte_from(s, at) } else { 0 }
+}
+
+// Byte k of two pieces, which stand at bits a and b of s. They meet in the middle of byte 128.
+fn pair_byte(s: &[u8], first: bool, a: usize, second: bool, b: usize, k: usize) -> u8
+    requires { ⌜ (a ≤ groupBits * places) × (b ≤ groupBits * places) × (k < 257) ⌝ }
+    ensures { λ r. ⌜ r ≡ byteOf (pairBit (now (s .entry)) first a second b) k ⌝ }
+{
+    if k < 128 {
+        return eight(s, first, a + 8 * k);
+    }
+    if 128 < k {
+        return eight(s, second, b + (8 * k - GROUP_BITS));
+    }
+    eight(s, first, a + 1024) / 16 * 16 + eight(s, second, b) / 16
+}
+
+// The bytes of two pieces, or as many of them as there is room for.
+fn fill_pair(s: &[u8], first: bool, a: usize, second: bool, b: usize, out: &mut [u8])
+    requires { ⌜ (a ≤ groupBits * places) × (b ≤ groupBits * places) × (length (now out) ≤ 257) ⌝ }
+    ensures { λ _. ⌜ now (out .exit) ≡ pack (length (now (out .entry))) (pairBit (now (s .entry)) first a second b) ⌝ }
+{
+    for k in 0..out.len() {
+        out[k] = pair_byte(s, first, a, second, b, k);
+    }
+}
+
+// Places 2 p and 2 p + 1 of a window, counted from 0.
+fn fill_places(c: u64, f: u64, n: u64, p: usize, groups: &[u8], out: &mut [u8])
+    requires { ⌜ Window c f n × (p < n / 2) × (length (now out) ≡ 257) ⌝ }
+    ensures { λ _. ⌜ now (out .exit) ≡ tabulate 257 (λ k. byteOf (windowBit c f (now (groups .entry))) (257 * p + k)) ⌝ }
+{
+    let m = 2 * (p as u64);
+    let first = is_data(c, f + m);
+    let a = GROUP_BITS * (data_in(c, f, m) as usize);
+    let second = is_data(c, f + (m + 1));
+    let b = GROUP_BITS * (data_in(c, f, m + 1) as usize);
+    fill_pair(groups, first, a, second, b, out);
+}
+
+// All places of a window, two by two.
+fn fill_window(c: u64, f: u64, n: u64, groups: &[u8], window: &mut [u8])
+    requires { ⌜ Window c f n × (length (now window) ≡ windowBytes n) ⌝ }
+    ensures { λ _. ⌜ now (window .exit) ≡ pack (windowBytes n) (windowBit c f (now (groups .entry))) ⌝ }
+{
+    for p in 0..(n / 2) as usize {
+        let at = PAIR_BYTES * p;
+        fill_places(c, f, n, p, groups, &mut window[at..at + PAIR_BYTES]);
+    }
 }
