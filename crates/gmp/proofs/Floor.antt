@@ -48,3 +48,10 @@ data-le c f n = count-le (λ k. isData c (f + k)) n
 pub data-more : (c f n : ℕ) → dataFrom c f (suc n) ≡ cond (isData c (f + n)) (suc (dataFrom c f n)) (dataFrom c f n)
 unfolding dataFrom count
 data-more c f n = refl
+
+-- the more places, the more data places
+pub data-mono : (c f m n : ℕ) → m ≤ n → dataFrom c f m ≤ dataFrom c f n
+unfolding dataFrom
+data-mono c f m n h =
+    let e : m + (n - m) ≡ n = omega arith in
+    omega (arith, ap (count (λ k. isData c (f + k))) e, count-add (λ k. isData c (f + k)) m (n - m))

@@ -136,6 +136,7 @@ guard true m p y e = absurd (omega arith)
 guard false m p y e = (refl, e)
 
 pub record MapTaken (c f n : ℕ) (g : List ℕ) (l : ℕ) : Type 0 where
+  pub numbers : outsideWindow c f n ≡ false
   pub window : Window c f n
   pub groups-length : length g ≡ groupBytes (dataFrom c f n)
   pub window-length : l ≡ windowBytes n
@@ -150,6 +151,7 @@ map-taken c f n g l e z =
     let g₃ = guard (wrong l (windowBytes n)) 1 (bufferPlace 2) _ (g₂ .1) in
     let g₄ = guard (spareSet m g) 2 (bufferPlace 1) _ (g₃ .1) in
     record {
+      numbers = g₁ .0;
       window = window-in c f n refl (g₁ .0);
       groups-length = eqb-true (length g) (groupBytes m) (not-false (eqb (length g) (groupBytes m)) (g₂ .0));
       window-length = eqb-true l (windowBytes n) (not-false (eqb l (windowBytes n)) (g₃ .0));

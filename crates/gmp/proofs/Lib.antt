@@ -9,4 +9,6 @@ pub mod Pairs
 pub mod Judging
 pub mod Spares
 pub mod Filling
+pub mod Ranks
+pub mod RoundTrip
 pub mod Unique

@@ -1,11 +1,12 @@
 -- ONE ANSWER for each public function: two outcomes that meet its contract at one entry are equal. Assumes nothing.
 use Prim.Native.Nat.{ℕ}
 use mathlib.Core.Path.{_≡_, refl, sym, ap, _∙_}
+use mathlib.Core.List.{List}
 use native.Mathlib.Omega.{arith}
 use Rattle.answer.specs.declared.Answer.{Answer}
 use Rattle.answer.proofs.Meets.{only-answer, only-outcome}
 use Rattle.gmp.specs.Places.{kindNumber}
-use Rattle.gmp.specs.Answers.{Told, told, runOf, runsOf}
+use Rattle.gmp.specs.Answers.{Told, told, runOf, runsOf, Mapped, Unmapped}
 use Rattle.gmp.specs.declared.told.Kind.{Kind}
 use Rattle.gmp.specs.declared.told.Kind.the-variants.{Stuff, Data}
 use Rattle.gmp.specs.declared.told.Run.{Run}
@@ -28,3 +29,9 @@ only-run c j r r′ p q =
 
 pub only-runs : (c j : ℕ) (r r′ : Answer) → r ≡ runsOf c j → r′ ≡ runsOf c j → r ≡ r′
 only-runs c j r r′ p q = only-answer p q
+
+pub only-map : (c f n : ℕ) (g w : List ℕ) (r r′ : Answer) (out out′ : List ℕ) → Mapped c f n g w r out → Mapped c f n g w r′ out′ → (r ≡ r′) × (out ≡ out′)
+only-map c f n g w r r′ out out′ p q = only-outcome p q
+
+pub only-unmap : (c f n : ℕ) (w g : List ℕ) (r r′ : Answer) (out out′ : List ℕ) → Unmapped c f n w g r out → Unmapped c f n w g r′ out′ → (r ≡ r′) × (out ≡ out′)
+only-unmap c f n w g r r′ out out′ p q = only-outcome p q

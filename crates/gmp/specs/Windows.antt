@@ -47,6 +47,11 @@ windowBit c f g i =
 unfoldable pub groupPlace : ℕ → ℕ → ℕ → ℕ → ℕ
 groupPlace c f n q = first (λ m. ltb q (dataFrom c f (suc m))) n
 
+-- r is that place, and no more than there are
+pub record GroupAt (c f n q r : ℕ) : Type 0 where
+  pub is : r ≡ groupPlace c f n q
+  pub within : r ≤ places
+
 -- bit i of the groups: it belongs to group i / 1028, which is the whole of its place. Stuff is not looked at; behind the last group bits are zero
 unfoldable pub groupsBit : ℕ → ℕ → ℕ → List ℕ → ℕ → ℕ
 groupsBit c f n w i =

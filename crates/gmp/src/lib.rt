@@ -1,13 +1,13 @@
 // GMP places, their runs, and payload windows: document 01, "GMP places".
 ghost use mathlib.Core.Path.{_≡_};
 ghost use mathlib.Core.Bool.{true, false};
-ghost use Prim.Native.Nat.{suc, _+_, _*_, _/_, _≤_, _<_};
+ghost use Prim.Native.Nat.{suc, _+_, _*_, _/_, _≤_, _<_, min};
 ghost use lib.ListN.{length};
 ghost use Rattle.bits.specs.Bits.{num, byteOf, pack, tabulate};
-ghost use Rattle.gmp.specs.Places.{places, groupBits, isData, Place};
+ghost use Rattle.gmp.specs.Places.{places, groupBits, isData, dataFrom, Place};
 ghost use Rattle.gmp.specs.Runs.{lastOfRun, runsFrom};
 ghost use Rattle.gmp.specs.Answers.{outsidePlace, told, runOf, runsOf, mapAnswer, unmapAnswer, Mapped, Unmapped};
-ghost use Rattle.gmp.specs.Windows.{groupBytes, windowBytes, outsideWindow, Window, Stretch, DataIn, windowBit, groupPlace, groupsBit, spareSet, piece, pairBit};
+ghost use Rattle.gmp.specs.Windows.{groupBytes, windowBytes, outsideWindow, Window, Stretch, DataIn, windowBit, groupPlace, GroupAt, groupsBit, spareSet, piece, pairBit};
 
 mod told;
 
@@ -68,6 +68,17 @@ pub fn map(c: u64, f: u64, n: u64, groups: &[u8], window: &mut [u8]) -> Answer
     let answer = map_answer(c, f, n, groups, window.len());
     if answer.number == 0 {
         fill_window(c, f, n, groups, window);
+    }
+    answer
+}
+
+// Gives the data groups of a window back. Stuff is not looked at.
+pub fn unmap(c: u64, f: u64, n: u64, window: &[u8], groups: &mut [u8]) -> Answer
+    ensures { λ r. ⌜ Unmapped c f n (now (window .entry)) (now (groups .entry)) r (now (groups .exit)) ⌝ }
+{
+    let answer = unmap_answer(c, f, n, window.len(), groups.len());
+    if answer.number == 0 {
+        fill_groups(c, f, n, window, groups);
     }
     answer
 }
@@ -252,5 +263,63 @@ fn fill_window(c: u64, f: u64, n: u64, groups: &[u8], window: &mut [u8])
     for p in 0..(n / 2) as usize {
         let at = PAIR_BYTES * p;
         fill_places(c, f, n, p, groups, &mut window[at..at + PAIR_BYTES]);
+    }
+}
+
+// What `unmap` answers.
+fn unmap_answer(c: u64, f: u64, n: u64, window: usize, groups: usize) -> Answer
+    ensures { λ r. ⌜ r ≡ unmapAnswer c f n window groups ⌝ }
+{
+    if outside_window(c, f, n) {
+        return answer::refuse(answer::OUTSIDE_SET, 0);
+    }
+    let d = data_in(c, f, n);
+    if window as u64 != 257 * n / 2 {
+        return answer::refuse(answer::WRONG_LENGTH, answer::buffer_place(1));
+    }
+    if groups as u64 != (257 * d + 1) / 2 {
+        return answer::refuse(answer::WRONG_LENGTH, answer::buffer_place(2));
+    }
+    answer::granted(d)
+}
+
+// The place of data group q of a window with d of them, counted from f; n where there is no such group.
+fn group_place(c: u64, f: u64, n: u64, d: u64, q: u64) -> u64
+    requires { ⌜ Window c f n × DataIn c f n d ⌝ }
+    ensures { λ r. ⌜ GroupAt c f n q r ⌝ }
+{
+    if d <= q {
+        return n;
+    }
+    (((f - 1) * c / PLACES + q + 1) * PLACES + (c - 1)) / c - f
+}
+
+// Groups 2 p and 2 p + 1 of a window with d of them.
+fn fill_two(c: u64, f: u64, n: u64, d: u64, p: usize, window: &[u8], out: &mut [u8])
+    requires { ⌜ Window c f n × DataIn c f n d × (p ≤ places) × (length (now out) ≤ 257) ⌝ }
+    ensures { λ _. ⌜ now (out .exit) ≡ tabulate (length (now (out .entry))) (λ k. byteOf (groupsBit c f n (now (window .entry))) (257 * p + k)) ⌝ }
+{
+    let q = 2 * (p as u64);
+    let a = GROUP_BITS * (group_place(c, f, n, d, q) as usize);
+    let b = GROUP_BITS * (group_place(c, f, n, d, q + 1) as usize);
+    fill_pair(window, q < d, a, q + 1 < d, b, out);
+}
+
+fn least(a: usize, b: usize) -> usize
+    ensures { λ r. ⌜ r ≡ min a b ⌝ }
+{
+    if a < b { a } else { b }
+}
+
+// All groups of a window, two by two. An odd one at the end has half a byte more than 128, and zeros behind it.
+fn fill_groups(c: u64, f: u64, n: u64, window: &[u8], groups: &mut [u8])
+    requires { ⌜ Window c f n × (length (now groups) ≡ groupBytes (dataFrom c f n)) ⌝ }
+    ensures { λ _. ⌜ now (groups .exit) ≡ pack (groupBytes (dataFrom c f n)) (groupsBit c f n (now (window .entry))) ⌝ }
+{
+    let d = data_in(c, f, n);
+    for p in 0..((d + 1) / 2) as usize {
+        let at = PAIR_BYTES * p;
+        let end = least(at + PAIR_BYTES, groups.len());
+        fill_two(c, f, n, d, p, window, &mut groups[at..end]);
     }
 }
