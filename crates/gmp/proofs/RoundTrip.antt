@@ -55,7 +55,14 @@ spare-zero d g j s o h =
 even-bytes : (k : ℕ) → 8 * groupBytes (2 * k) ≡ groupBits * (2 * k)
 even-bytes k = omega arith
 
--- an odd number leaves four bits
+-- so does an even number of places
+window-bytes : (n : ℕ) → n % 2 ≡ 0 → 8 * windowBytes n ≡ groupBits * n
+window-bytes n h = let e : n ≡ 2 * (n / 2) = omega arith in ap (λ (x : ℕ). 8 * windowBytes x) e ∙ at (n / 2) ∙ ap (λ (x : ℕ). groupBits * x) (sym e)
+  where
+    at : (k : ℕ) → 8 * windowBytes (2 * k) ≡ groupBits * (2 * k)
+    at k = omega arith
+
+-- an odd number of groups leaves four bits
 odd-bytes : (d : ℕ) → d % 2 ≡ 1 → 8 * groupBytes d ≡ groupBits * d + 4
 odd-bytes d h = let e : d ≡ 2 * (d / 2) + 1 = omega arith in ap (λ (x : ℕ). 8 * groupBytes x) e ∙ at (d / 2) ∙ ap (λ (x : ℕ). groupBits * x + 4) (sym e)
   where
@@ -91,7 +98,7 @@ module _ (c f n : ℕ) (g : List ℕ) (w : Window c f n) (spare : spareSet (data
           let r = i % 1028 in
           let s = stands c f n q (ltb-true q (dataFrom c f n) e) in
           let m = groupPlace c f n q in
-          let l : 1028 * m + r < 8 * windowBytes n = omega (arith, s .inside, w .even) in
+          let l : 1028 * m + r < 8 * windowBytes n = omega (arith, s .inside, window-bytes n (w .even)) in
           let k : 1028 * q + r ≡ i = omega arith in
           bitOf-packs 8 (windowBytes n) (windowBit c f g) (1028 * m + r) (window-lt c f g) l ∙ at-place c f n g q r m (omega arith) s ∙ ap (bitAt g) k
       by false e =
