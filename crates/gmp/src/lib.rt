@@ -16,7 +16,7 @@ pub use told::Kind;
 pub use told::Run;
 
 // The places of an envelope are 1 to PLACES.
-const PLACES: u64 = 10220;
+pub const PLACES: u64 = 10220;
 
 // A place has four blocks of 257 bits; two places are 257 bytes.
 const GROUP_BITS: usize = 1028;
