@@ -1,17 +1,18 @@
 -- What the tests of `run` and `runs` say: the request is of a place, or it is refused. Assumes nothing.
 use Prim.Native.Nat.{ℕ}
 use mathlib.Core.Bool.{Bool, true, false, _||_}
-use mathlib.Core.Path.{_≡_, refl, sym, _∙_}
+use mathlib.Core.Path.{_≡_, refl, sym, ap, _∙_}
 use mathlib.Core.List.{[]}
-use borrow.Author.Tests.{ltb-false}
+use borrow.Author.Tests.{ltb-false, le-ltb}
 use lib.Dec.{ltb}
 use Rattle.answer.specs.Numbers.{allDone, outsideSet}
 use Rattle.answer.specs.Rows.{done, refused, answerOf}
 use Rattle.answer.specs.declared.Answer.{Answer}
 use Rattle.answer.proofs.Table.{row-whole, clash}
 use Rattle.gmp.specs.Places.{places, isData, Place}
-use Rattle.gmp.specs.Runs.{lastOfRun, runsFrom}
-use Rattle.gmp.specs.Answers.{outsidePlace, told, runOf, runsOf}
+use Rattle.gmp.specs.Runs.{lastOfRun, runsFrom, EndsRun}
+use Rattle.gmp.specs.Answers.{outsidePlace, Told, told, runOf, runsOf}
+use Rattle.gmp.proofs.Stretches.{last-ends}
 use Rattle.gmp.specs.declared.told.Kind.the-variants.{Stuff, Data}
 use Rattle.gmp.specs.declared.told.Run.{Run}
 
@@ -63,6 +64,17 @@ runs-refused c j p q e = e ∙ rw (row-whole outsideSet (outsidePlace c j) [] (r
 pub runs-done : (c j : ℕ) {o : Bool} {n : ℕ} {a : Answer} → o ≡ outsidePlace c j → o ≡ false → n ≡ runsFrom c j → a ≡ done n → a ≡ runsOf c j
 unfolding runsOf answerOf
 runs-done c j p q h e = e ∙ rw (row-whole outsideSet (outsidePlace c j) [] (runsFrom c j), ← p, q, h)
+
+-- ---- what the answer to a run request says, for a caller that lists runs
+
+pub not-outside : (c j : ℕ) → Place c j → outsidePlace c j ≡ false
+not-outside c j p = rw (le-ltb places c (p .count), le-ltb j 1 (p .from), le-ltb places j (p .to))
+
+pub run-ends : (c j : ℕ) (r : Run) → Place c j → told r ≡ runOf c j → EndsRun c j (r .last)
+unfolding runOf
+run-ends c j r p e =
+    let l : r .last ≡ lastOfRun c j = ap (λ (t : Told). t .last) (rw (not-outside c j p) at e) in
+    rw l (last-ends c j (p .to))
 
 -- the needs of `run` and `runs`: `search asked`
 pub ruleset asked = (inside, kind-is, run-refused, run-data, run-stuff, runs-refused, runs-done)

@@ -4,6 +4,8 @@ ghost use mathlib.Core.Bool.{true, false};
 ghost use Prim.Native.Nat.{suc, _+_, _*_, _/_, _≤_, _<_, min};
 ghost use lib.ListN.{length};
 ghost use Rattle.bits.specs.Bits.{num, byteOf, pack, tabulate};
+ghost use Rattle.answer.specs.Numbers.{outsideSet};
+ghost use Rattle.answer.specs.Rows.{refused};
 ghost use Rattle.gmp.specs.Places.{places, groupBits, isData, dataFrom, Place};
 ghost use Rattle.gmp.specs.Runs.{lastOfRun, runsFrom};
 ghost use Rattle.gmp.specs.Answers.{outsidePlace, told, runOf, runsOf, mapAnswer, unmapAnswer, Mapped, Unmapped};
@@ -53,7 +55,7 @@ pub fn runs(c: u64, j: u64) -> Answer
     ensures { λ r. ⌜ r ≡ runsOf c j ⌝ }
 {
     if outside_place(c, j) {
-        return answer::refuse(answer::OUTSIDE_SET, 0);
+        return outside();
     }
     if is_data(c, j) {
         return answer::granted(data_runs(c, j));
@@ -81,6 +83,17 @@ pub fn unmap(c: u64, f: u64, n: u64, window: &[u8], groups: &mut [u8]) -> Answer
         fill_groups(c, f, n, window, groups);
     }
     answer
+}
+
+// Refused: a number is outside its stated set.
+fn outside() -> Answer
+    ensures { λ r. ⌜ r ≡ refused outsideSet 0 ⌝ }
+{
+    Answer {
+        number: answer::OUTSIDE_SET,
+        place: 0,
+        count: 0,
+    }
 }
 
 // Whether c is no count or j no place.
@@ -196,7 +209,7 @@ fn map_answer(c: u64, f: u64, n: u64, groups: &[u8], window: usize) -> Answer
     ensures { λ r. ⌜ r ≡ mapAnswer c f n (now (groups .entry)) window ⌝ }
 {
     if outside_window(c, f, n) {
-        return answer::refuse(answer::OUTSIDE_SET, 0);
+        return outside();
     }
     let d = data_in(c, f, n);
     if groups.len() as u64 != (257 * d + 1) / 2 {
@@ -271,7 +284,7 @@ fn unmap_answer(c: u64, f: u64, n: u64, window: usize, groups: usize) -> Answer
     ensures { λ r. ⌜ r ≡ unmapAnswer c f n window groups ⌝ }
 {
     if outside_window(c, f, n) {
-        return answer::refuse(answer::OUTSIDE_SET, 0);
+        return outside();
     }
     let d = data_in(c, f, n);
     if window as u64 != 257 * n / 2 {

@@ -8,8 +8,8 @@ use Rattle.gmp.proofs.map_answer.Tie as tie
 outside-window-requires : tie.Need-outside-window-requires
 outside-window-requires c κs = search needs
 
-refuse-requires : tie.Need-refuse-requires
-refuse-requires c κs = search needs
+outside-requires : tie.Need-outside-requires
+outside-requires c κs = search needs
 
 returns : tie.Need-returns
 returns c = search judged
@@ -26,8 +26,8 @@ add-if2 c = search needs
 buffer-place-requires : tie.Need-buffer-place-requires
 buffer-place-requires c κs = search needs
 
-refuse-requires-2 : tie.Need-refuse-requires-2
-refuse-requires-2 c κs = search needs
+refuse-requires : tie.Need-refuse-requires
+refuse-requires c κs = search needs
 
 returns-2 : tie.Need-returns-2
 returns-2 c = search judged
@@ -41,8 +41,8 @@ mul-if3 c =
 buffer-place-requires-2 : tie.Need-buffer-place-requires-2
 buffer-place-requires-2 c κs = search needs
 
-refuse-requires-3 : tie.Need-refuse-requires-3
-refuse-requires-3 c κs = search needs
+refuse-requires-2 : tie.Need-refuse-requires-2
+refuse-requires-2 c κs = search needs
 
 returns-3 : tie.Need-returns-3
 returns-3 c = search judged
@@ -53,8 +53,8 @@ spare-set-requires c κs = search needs
 buffer-place-requires-3 : tie.Need-buffer-place-requires-3
 buffer-place-requires-3 c κs = search needs
 
-refuse-requires-4 : tie.Need-refuse-requires-4
-refuse-requires-4 c κs = search needs
+refuse-requires-3 : tie.Need-refuse-requires-3
+refuse-requires-3 c κs = search needs
 
 returns-4 : tie.Need-returns-4
 returns-4 c = search judged
@@ -70,21 +70,21 @@ map-answer-spec =
     tie.close
     (tie.spec
     outside-window-requires
-    refuse-requires
+    outside-requires
     returns
     data-in-requires
     mul-if2
     add-if2
     buffer-place-requires
-    refuse-requires-2
+    refuse-requires
     returns-2
     mul-if3
     buffer-place-requires-2
-    refuse-requires-3
+    refuse-requires-2
     returns-3
     spare-set-requires
     buffer-place-requires-3
-    refuse-requires-4
+    refuse-requires-3
     returns-4
     granted-requires
     returns-5)

@@ -7,8 +7,8 @@ use Rattle.gmp.proofs.runs.Tie as tie
 outside-place-requires : tie.Need-outside-place-requires
 outside-place-requires c κs = search needs
 
-refuse-requires : tie.Need-refuse-requires
-refuse-requires c κs = search needs
+outside-requires : tie.Need-outside-requires
+outside-requires c κs = search needs
 
 returns : tie.Need-returns
 returns c = search asked
@@ -39,7 +39,7 @@ runs-spec =
     tie.close
     (tie.spec
     outside-place-requires
-    refuse-requires
+    outside-requires
     returns
     is-data-requires
     data-runs-requires
