@@ -1,0 +1,5 @@
+-- The laws of `specs/`.
+pub mod Stepping
+pub mod Digits
+pub mod Whole
+pub mod Unique

@@ -1,0 +1,118 @@
+-- The input read byte by byte gives the count of its first line; read in parts it gives the same. Assumes nothing.
+use Prim.Native.Nat.{ℕ, zero, suc, _+_, _-_, _*_, _≤_, _<_, min}
+use mathlib.Core.Bool.{Bool, true, false, cond, not, _&&_, _||_}
+use mathlib.Core.Path.{_≡_, refl, sym, ap, ap₂, _∙_}
+use mathlib.Core.List.{List, [], _∷_, _++_}
+use mathlib.Core.Logic.{⊎-elim}
+use native.Mathlib.Nat.{add-zero, add-suc, eq-or-lt-of-le}
+use native.Mathlib.Omega.{arith}
+use borrow.Author.Tests.{ltb-true, ltb-false, lt-ltb, le-ltb}
+use lib.Dec.{ltb, eqb, eqb·suc-zero}
+use lib.ListN.{length, getD, length-append, List·getD-append}
+use lib.Seq.{getD-append-add}
+use Rattle.bits.specs.Loops.{upto, first}
+use Rattle.bits.proofs.LoopLaws.{First, first-holds}
+use Rattle.answer.specs.Numbers.{outsideSet}
+use Rattle.answer.specs.Rows.{done, refused, answerOf, whole}
+use Rattle.answer.specs.declared.Answer.{Answer}
+use Rattle.answer.proofs.Table.{row-whole}
+use Rattle.gmp.specs.Places.{places}
+use Rattle.count_line.specs.Lines.{lineFeed, lineLength, digitAt, allDigits, decimal, noCount, countOf}
+use Rattle.count_line.specs.Reading.{tooMuch, nextValue, startOf, stepOf, stepAt, moreOf, soFar}
+use Rattle.count_line.specs.declared.Line.{Line}
+use Rattle.count_line.proofs.Stepping.{so-far-chain}
+use Rattle.count_line.proofs.Digits.{seen, seen-more, digits-none, digits-more, decimal-none, decimal-more}
+
+-- ---- within the line
+
+module _ (s : List ℕ) where
+  abbrev n : ℕ
+  n = lineLength s
+
+  line-first : First (lineFeed s) (length s) n
+  unfolding lineLength
+  line-first = first-holds (lineFeed s) (length s)
+
+  abbrev number : ℕ → ℕ
+  number k = seen (allDigits s k) (decimal s k)
+
+  number-more : (k : ℕ) → nextValue (number k) (getD s k 0) ≡ number (suc k)
+  number-more k = seen-more (allDigits s k) (decimal s k) (getD s k 0) ∙ ap₂ seen (sym (digits-more s k)) (sym (decimal-more s k))
+
+  -- after k bytes of the line
+  within : (k : ℕ) → k ≤ n → upto (stepAt s) startOf k ≡ record { value = number k; some = ltb 0 k; ended = false }
+  unfolding upto stepAt stepOf seen
+  within zero h = rw (digits-none s, decimal-none s)
+  within (suc k) h = rw (within k (omega arith), line-first .none k h, number-more k, lt-ltb 0 (suc k) (omega arith))
+
+  -- after the line feed nothing counts
+  behind : (k : ℕ) → n < length s → upto (stepAt s) startOf (suc (n + k)) ≡ record { value = number n; some = ltb 0 n; ended = true }
+  unfolding upto stepAt stepOf
+  behind zero h = rw (add-zero n, within n (omega arith), line-first .here h)
+  behind (suc k) h = rw (add-suc n k, behind k h)
+
+  -- what is kept of the whole input
+  pub record Kept (l : Line) : Type 0 where
+    pub value-is : l .value ≡ number n
+    pub some-is : l .some ≡ ltb 0 n
+
+  kept : Kept (moreOf startOf s)
+  kept = ⊎-elim at-end past (eq-or-lt-of-le (line-first .within))
+    where
+      at-end : n ≡ length s → Kept (moreOf startOf s)
+      at-end e =
+          let w : moreOf startOf s ≡ record { value = number n; some = ltb 0 n; ended = false } = ap (upto (stepAt s) startOf) (sym e) ∙ within n (omega arith) in
+          record { value-is = ap (λ (l : Line). l .value) w; some-is = ap (λ (l : Line). l .some) w }
+
+      past : n < length s → Kept (moreOf startOf s)
+      past h =
+          let e : suc (n + (length s - suc n)) ≡ length s = omega arith in
+          let w : moreOf startOf s ≡ record { value = number n; some = ltb 0 n; ended = true } = ap (upto (stepAt s) startOf) (sym e) ∙ behind (length s - suc n) h in
+          record { value-is = ap (λ (l : Line). l .value) w; some-is = ap (λ (l : Line). l .some) w }
+
+-- ---- the answer
+
+count-chain : (s : List ℕ) → countOf s ≡ cond (noCount s (lineLength s)) (refused outsideSet 0) (done (decimal s (lineLength s)))
+unfolding countOf answerOf
+count-chain s = row-whole outsideSet (noCount s (lineLength s)) [] (decimal s (lineLength s))
+
+-- an empty line, one with a byte that is no digit, one above every count, and a count
+module _ (v : ℕ) where
+  above : (t : Bool) → ltb places (min v tooMuch) ≡ t → cond t (refused outsideSet 0) (done (min v tooMuch)) ≡ cond (ltb places v) (refused outsideSet 0) (done v)
+  above true e = rw (lt-ltb places v (omega (arith, ltb-true places (min v tooMuch) e)))
+  above false e =
+      let l : min v tooMuch ≤ places = ltb-false places (min v tooMuch) e in
+      let m : min v tooMuch ≡ v = omega arith in
+      rw (le-ltb places v (omega arith), m)
+
+  same-verdict : (n : ℕ) (d : Bool) → cond (not (ltb 0 n) || ltb places (seen d v)) (refused outsideSet 0) (done (seen d v)) ≡ cond (eqb n 0 || (not d || ltb places v)) (refused outsideSet 0) (done v)
+  unfolding seen
+  same-verdict zero d = refl
+  same-verdict (suc n) false = rw (eqb·suc-zero n, lt-ltb 0 (suc n) (omega arith))
+  same-verdict (suc n) true = rw (eqb·suc-zero n, lt-ltb 0 (suc n) (omega arith)) (above (ltb places (min v tooMuch)) refl)
+
+-- THE COUNT: what was read of the whole input is the count of its first line
+pub read-all : (s : List ℕ) → soFar (moreOf startOf s) ≡ countOf s
+read-all s =
+    let k = kept s in
+    so-far-chain (moreOf startOf s) ∙ rw (k .value-is, k .some-is, count-chain s) (same-verdict (decimal s (lineLength s)) (lineLength s) (allDigits s (lineLength s)))
+
+-- the same of what the code's three calls answered
+pub read-by : (s : List ℕ) {l m : Line} {a : Answer} → l ≡ startOf → m ≡ moreOf l s → a ≡ soFar m → a ≡ countOf s
+read-by s p q e = e ∙ rw (q, p) (read-all s)
+
+-- bytes of a, and then of b, are bytes of both together
+module _ (l : Line) (a b : List ℕ) where
+  in-first : (k : ℕ) → k ≤ length a → upto (stepAt a) l k ≡ upto (stepAt (a ++ b)) l k
+  unfolding upto stepAt
+  in-first zero h = refl
+  in-first (suc k) h = rw (in-first k (omega arith), List·getD-append a b 0 k h)
+
+  in-second : (k : ℕ) → upto (stepAt b) (upto (stepAt a) l (length a)) k ≡ upto (stepAt (a ++ b)) l (length a + k)
+  unfolding upto stepAt
+  in-second zero = rw add-zero (in-first (length a) (omega arith))
+  in-second (suc k) = rw (add-suc, in-second k, getD-append-add a b k 0)
+
+  -- IN PARTS: a, and then b, is a and b together
+  pub in-parts : moreOf (moreOf l a) b ≡ moreOf l (a ++ b)
+  in-parts = in-second (length b) ∙ ap (upto (stepAt (a ++ b)) l) (sym (length-append a b))

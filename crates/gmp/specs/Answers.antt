@@ -1,0 +1,75 @@
+-- What the public functions answer, for any input: document 01, "GMP places" and "Numbers handed back". Assumes nothing: these are definitions.
+use Prim.Native.Nat.{ℕ}
+use mathlib.Core.Bool.{Bool, cond, not, _||_}
+use mathlib.Core.List.{List, [], _∷_}
+use lib.Dec.{ltb, eqb}
+use lib.ListN.{length}
+use Rattle.bits.specs.Bits.{pack}
+use Rattle.answer.specs.Numbers.{allDone, outsideSet, wrongLength, spareBit}
+use Rattle.answer.specs.Outcomes.{Outcome, written}
+use Rattle.answer.specs.Rows.{answerOf, whole, buffers}
+use Rattle.answer.specs.declared.Answer.{Answer}
+use Rattle.gmp.specs.Places.{places, kindNumber, kindAt, dataFrom}
+use Rattle.gmp.specs.Runs.{lastOfRun, runsFrom}
+use Rattle.gmp.specs.Windows.{groupBytes, windowBytes, outsideWindow, windowBit, groupsBit, spareSet}
+use Rattle.gmp.specs.declared.told.Kind.the-variants.{Stuff}
+use Rattle.gmp.specs.declared.told.Run.{Run}
+
+-- the count or the place is outside its stated set
+abbrev pub outsidePlace : ℕ → ℕ → Bool
+outsidePlace c j = ltb places c || (ltb j 1 || ltb places j)
+
+-- what a run request answers, each part by the document's number
+pub record Told : Type 0 where
+  pub number : ℕ
+  pub kind : ℕ
+  pub last : ℕ
+
+abbrev pub told : Run → Told
+told r = record { number = r .number; kind = kindNumber (r .kind); last = r .last }
+
+-- "A refused run request also gives kind stuff and last place 0."
+unfoldable pub runOf : ℕ → ℕ → Told
+runOf c j =
+    cond (outsidePlace c j) (record { number = outsideSet; kind = kindNumber Stuff; last = 0 })
+    (record { number = allDone; kind = kindAt c j; last = lastOfRun c j })
+
+-- the number of runs is a count
+unfoldable pub runsOf : ℕ → ℕ → Answer
+runsOf c j = answerOf (whole outsideSet (outsidePlace c j) ∷ []) (runsFrom c j)
+
+-- ---- windows
+
+-- a buffer's length is not the stated one
+abbrev pub wrong : ℕ → ℕ → Bool
+wrong l stated = not (eqb l stated)
+
+-- mapping the groups g into a window of l bytes: the buffers are the groups and the window; the count is d
+unfoldable pub mapAnswer : ℕ → ℕ → ℕ → List ℕ → ℕ → Answer
+mapAnswer c f n g l =
+    answerOf
+    (whole outsideSet (outsideWindow c f n)
+    ∷ buffers wrongLength (wrong (length g) (groupBytes (dataFrom c f n)) ∷ wrong l (windowBytes n) ∷ [])
+    ∷ buffers spareBit (spareSet (dataFrom c f n) g ∷ [])
+    ∷ [])
+    (dataFrom c f n)
+
+-- unmapping a window of l bytes into groups of k bytes: the buffers are the window and the groups; the count is d
+unfoldable pub unmapAnswer : ℕ → ℕ → ℕ → ℕ → ℕ → Answer
+unmapAnswer c f n l k =
+    answerOf
+    (whole outsideSet (outsideWindow c f n)
+    ∷ buffers wrongLength (wrong l (windowBytes n) ∷ wrong k (groupBytes (dataFrom c f n)) ∷ [])
+    ∷ [])
+    (dataFrom c f n)
+
+-- the contract of `map`, where w is the window before and `out` the window after
+abbrev pub Mapped : ℕ → ℕ → ℕ → List ℕ → List ℕ → Answer → List ℕ → Type 0
+Mapped c f n g w r out =
+    Outcome (mapAnswer c f n g (length w)) (written (mapAnswer c f n g (length w)) (pack (windowBytes n) (windowBit c f g)) w) r out
+
+-- the contract of `unmap`, where g holds the groups' bytes before and `out` those after
+abbrev pub Unmapped : ℕ → ℕ → ℕ → List ℕ → List ℕ → Answer → List ℕ → Type 0
+Unmapped c f n w g r out =
+    Outcome (unmapAnswer c f n (length w) (length g))
+    (written (unmapAnswer c f n (length w) (length g)) (pack (groupBytes (dataFrom c f n)) (groupsBit c f n w)) g) r out

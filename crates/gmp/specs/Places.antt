@@ -1,0 +1,38 @@
+-- Document 01, "GMP places" (ITU-T G.709 Annex D): the places of a four-frame envelope and their kinds. Assumes nothing: these are definitions.
+use Prim.Native.Nat.{ℕ, suc, _+_, _*_, _%_, _≤_}
+use mathlib.Core.Bool.{Bool, cond}
+use lib.Dec.{ltb}
+use Rattle.bits.specs.Loops.{count}
+use Rattle.gmp.specs.declared.told.Kind.{Kind}
+use Rattle.gmp.specs.declared.told.Kind.the-variants.{Stuff, Data}
+
+-- P: the places of an envelope are 1 .. P
+abbrev pub places : ℕ
+places = 10220
+
+-- a place has four blocks of 257 bits
+abbrev pub groupBits : ℕ
+groupBits = 1028
+
+-- "For a count C in 0..10,220, place j in 1..10,220 is data if (j·C) mod P < C, else stuff"
+unfoldable pub isData : ℕ → ℕ → Bool
+isData c j = ltb (j * c % places) c
+
+-- a count, and one of the places
+pub record Place (c j : ℕ) : Type 0 where
+  pub count : c ≤ places
+  pub from : 1 ≤ j
+  pub to : j ≤ places
+
+-- the document's number for each kind
+abbrev pub kindNumber : Kind → ℕ
+kindNumber Stuff = 0
+kindNumber Data = 1
+
+-- the kind of place j, by that number
+abbrev pub kindAt : ℕ → ℕ → ℕ
+kindAt c j = cond (isData c j) (kindNumber Data) (kindNumber Stuff)
+
+-- how many of the n places from f on are data, place by place
+unfoldable pub dataFrom : ℕ → ℕ → ℕ → ℕ
+dataFrom c f n = count (λ k. isData c (f + k)) n
