@@ -55,6 +55,7 @@ tests!(
     delay_lines,
     filler_slots,
     mixed_words_at_borders,
+    column_order_as_printed,
     matrix_properties,
     published_words,
     encoder_matrix_of_10_5,
@@ -418,6 +419,42 @@ fn mixed_words_at_borders() {
             }
         }
         assert_eq!((earlier, later), (225, 225));
+    }
+}
+
+/// The formula for H in document 001, section 10.5, as it is printed, taken apart piece by piece.
+/// "g(a):g(b) represents [g(a), g(a+1), g(a+2), ..., g(b)]"
+fn column_order_as_printed() {
+    let printed = "g(0):g(62), g(64):g(94), g(96):g(110), g(112):g(118), g(120), g(122), g(124), \
+                   g(63), g(95), g(111), g(119), g(121), g(123), g(125):g(127)";
+    let argument = |g: &str| -> usize {
+        g.strip_prefix("g(")
+            .unwrap()
+            .strip_suffix(')')
+            .unwrap()
+            .parse()
+            .unwrap()
+    };
+    let mut order = Vec::new();
+    for piece in printed.split(", ") {
+        match piece.split_once(':') {
+            Some((a, b)) => order.extend(argument(a)..=argument(b)),
+            None => order.push(argument(piece)),
+        }
+    }
+    assert_eq!(hamming::column_order(), order);
+    // s7 written out for the eight values of s2 s1 s0: ones at 000, 011, 101 and 111.
+    for i in 0..128 {
+        let column = hamming::g(i);
+        for k in 0..7 {
+            assert_eq!(column[k], i / 2usize.pow(k as u32) % 2 == 1);
+        }
+        assert_eq!(column[7], [true, false, false, true, false, true, false, true][i % 8]);
+        assert!(column[8]);
+        assert_eq!(
+            Matrix::new().columns[order.iter().position(|x| *x == i).unwrap()],
+            column
+        );
     }
 }
 
