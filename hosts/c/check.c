@@ -225,6 +225,10 @@ static zr_answer information(uint64_t n, uint64_t t, const uint8_t *info, size_t
 
 /* ---- printing */
 
+/* The label of the lines being printed. */
+static char label[200];
+#define LABEL(...) (snprintf(label, sizeof label, __VA_ARGS__), label)
+
 #define SHOWN "number %lu place %lu count %lu"
 #define NUMBERS(a) (a).number, (a).place, (a).count
 
@@ -382,12 +386,6 @@ static void say(const char *label, uint64_t m0)
     anew();
 }
 
-#define LABEL(...)                                                                                                             \
-    (label_length = snprintf(label, sizeof label, __VA_ARGS__), label_length < (int)sizeof label ? label : (stop("label"), label))
-
-static char label[200];
-static int label_length;
-
 static void turned(size_t t, size_t bit)
 {
     turn_in_block(damaged, t, bit);
@@ -471,7 +469,7 @@ static uint8_t *edit_client(uint64_t block)
     return bits;
 }
 
-static zr_answer edited(const char *name, uint64_t n, uint64_t block, const uint8_t *bits, size_t bl, const uint8_t *parity,
+static void edited(const char *name, uint64_t n, uint64_t block, const uint8_t *bits, size_t bl, const uint8_t *parity,
                         size_t pl, uint8_t *capture, size_t cl, size_t ll)
 {
     uint64_t *list = seeded_list(ll);
@@ -479,7 +477,6 @@ static zr_answer edited(const char *name, uint64_t n, uint64_t block, const uint
     printf("%s: " SHOWN "\n", name, NUMBERS(a));
     printf("%s: capture %016lx list %016lx\n", name, digest(capture, cl), digest_numbers(list, ll));
     free(list);
-    return a;
 }
 
 static const char *yes_or_no(int truth) { return truth ? "yes" : "no"; }
@@ -524,30 +521,40 @@ static void edits_of_never_coded(uint64_t block)
                seeded(301 + block, 2048), 2048, capture, cl, LIST);
 }
 
-static void edits(void)
+/* Coded captures by N, made where they are first asked for. */
+static struct coded *coded_once(uint64_t n)
+{
+    static struct coded of[9];
+    if (of[n].n == 0)
+        of[n] = coded_capture(n);
+    return &of[n];
+}
+
+static void granted_edits(void)
 {
     static const uint64_t blocks[8][2] = {{1, 0}, {1, 6}, {1, 951}, {1, 952}, {1, 4759}, {2, 4759}, {2, 4760}, {8, 38079}};
-    printf("list before: %016lx\n", digest_numbers(seeded_list(LIST), LIST));
-    struct coded of[9] = {0};
     for (int k = 0; k < 8; k++) {
-        uint64_t n = blocks[k][0];
-        if (of[n].n == 0) {
-            of[n] = coded_capture(n);
-            printf("N %lu coded: %016lx\n", n, digest(of[n].capture, of[n].cl));
-        }
-        granted_edit(&of[n], blocks[k][1]);
+        struct coded *c = coded_once(blocks[k][0]);
+        if (k == 0 || blocks[k - 1][0] != c->n)
+            printf("N %lu coded: %016lx\n", c->n, digest(c->capture, c->cl));
+        granted_edit(c, blocks[k][1]);
     }
+}
 
-    uint8_t *bits = edit_client(6), *parity = seeded(307, 2048);
+static void edits_outside(const uint8_t *bits, const uint8_t *parity)
+{
     static const uint64_t outside[5][2] = {{1, 4760}, {8, 38080}, {0, 0}, {9, 0}, {1, UINT64_MAX}};
     for (int k = 0; k < 5; k++) {
-        struct coded *c = outside[k][0] == 8 ? &of[8] : &of[1];
+        struct coded *c = coded_once(outside[k][0] == 8 ? 8 : 1);
         uint8_t *capture = copied(c->capture, c->cl);
         edited(LABEL("N %lu block %lu", outside[k][0], outside[k][1]), outside[k][0], outside[k][1], bits, 33, parity, 2048,
                capture, c->cl, LIST);
     }
+}
 
-    struct coded *c = &of[1];
+static void edits_of_wrong_buffers(const uint8_t *bits, const uint8_t *parity)
+{
+    struct coded *c = coded_once(1);
     uint8_t *capture = copied(c->capture, c->cl), *spare = copied(bits, 33), *high_spare = copied(bits, 33);
     spare[32] |= 1;
     high_spare[32] |= 0x40;
@@ -559,10 +566,15 @@ static void edits(void)
     edited("spare bit set and list of 144", 1, 6, spare, 33, parity, 2048, capture, c->cl, 144);
     edited("lowest spare bit set", 1, 6, spare, 33, parity, 2048, capture, c->cl, LIST);
     edited("highest spare bit set", 1, 6, high_spare, 33, parity, 2048, capture, c->cl, LIST);
-
-    size_t first = 15, last = 2672;
-    flip(capture, first, 0);
+    flip(capture, 15, 0);
     edited("spare bit set and listed word wrong", 1, 6, spare, 33, parity, 2048, capture, c->cl, LIST);
+}
+
+/* Block 6 lists the words 15 to 2672; 0 is filler, and 170 holds an element of block 5 alone. */
+static void edits_of_damage(const uint8_t *bits, const uint8_t *parity)
+{
+    struct coded *c = coded_once(1);
+    uint8_t *capture = copied(c->capture, c->cl), *sound = copied(c->capture, c->cl);
     static const unsigned wrong[3][2] = {{15, 0}, {15, 127}, {2672, 77}};
     for (int k = 0; k < 3; k++) {
         memcpy(capture, c->capture, c->cl);
@@ -570,11 +582,9 @@ static void edits(void)
         edited(LABEL("word %u bit %u wrong", wrong[k][0], wrong[k][1]), 1, 6, bits, 33, parity, 2048, capture, c->cl, LIST);
     }
     memcpy(capture, c->capture, c->cl);
-    flip(capture, last, 5);
-    flip(capture, first, 6);
+    flip(capture, 2672, 5);
+    flip(capture, 15, 6);
     edited("words 15 and 2672 wrong", 1, 6, bits, 33, parity, 2048, capture, c->cl, LIST);
-
-    uint8_t *sound = copied(c->capture, c->cl);
     edit(1, 6, bits, 33, parity, 2048, sound, c->cl, seeded_list(LIST), LIST);
     for (size_t w = 0; w <= 170; w += 170) {
         memcpy(capture, c->capture, c->cl);
@@ -585,6 +595,16 @@ static void edits(void)
         flip(capture, w, 127);
         printf("%s: kept %s\n", label, yes_or_no(memcmp(capture, sound, c->cl) == 0));
     }
+}
+
+static void edits(void)
+{
+    uint8_t *bits = edit_client(6), *parity = seeded(307, 2048);
+    printf("list before: %016lx\n", digest_numbers(seeded_list(LIST), LIST));
+    granted_edits();
+    edits_outside(bits, parity);
+    edits_of_wrong_buffers(bits, parity);
+    edits_of_damage(bits, parity);
     edits_of_never_coded(6);
     edits_of_never_coded(4759);
 }
