@@ -640,17 +640,6 @@ static void place(uint64_t c, uint64_t j)
     printf("C %lu place %lu runs: " SHOWN "\n", c, j, NUMBERS(a));
 }
 
-static void places(void)
-{
-    static const uint64_t asked[25][2] = {
-        {0, 1},         {0, 10220},     {1, 1},         {1, 10219},      {1, 10220},      {5110, 1},       {5110, 2},
-        {7001, 5000},   {10216, 1},     {10216, 2},     {10216, 2000},   {10216, 2555},   {10216, 2556},   {10217, 3407},
-        {10217, 3408},  {10220, 1},     {10220, 10220}, {0, 0},          {10216, 0},      {10216, 10221},  {10221, 1},
-        {10221, 0},     {UINT64_MAX, 1}, {1, UINT64_MAX}, {UINT64_MAX, UINT64_MAX}};
-    for (int k = 0; k < 25; k++)
-        place(asked[k][0], asked[k][1]);
-}
-
 static void all_places(void)
 {
     static const uint64_t counts[8] = {0, 1, 3000, 5110, 7001, 10216, 10217, 10220};
@@ -664,6 +653,18 @@ static void all_places(void)
         }
         printf("C %lu all places: %016lx\n", counts[k], digest_numbers(numbers, 3 * 10220));
     }
+}
+
+static void places(void)
+{
+    static const uint64_t asked[25][2] = {
+        {0, 1},         {0, 10220},     {1, 1},         {1, 10219},      {1, 10220},      {5110, 1},       {5110, 2},
+        {7001, 5000},   {10216, 1},     {10216, 2},     {10216, 2000},   {10216, 2555},   {10216, 2556},   {10217, 3407},
+        {10217, 3408},  {10220, 1},     {10220, 10220}, {0, 0},          {10216, 0},      {10216, 10221},  {10221, 1},
+        {10221, 0},     {UINT64_MAX, 1}, {1, UINT64_MAX}, {UINT64_MAX, UINT64_MAX}};
+    for (int k = 0; k < 25; k++)
+        place(asked[k][0], asked[k][1]);
+    all_places();
 }
 
 /* ---- parts */
@@ -711,13 +712,11 @@ int main(int count, char **words)
         windows(count - 2, words + 2);
     else if (strcmp(name, "places") == 0)
         places();
-    else if (strcmp(name, "all_places") == 0)
-        all_places();
     else if (strcmp(name, "parts") == 0)
         parts();
     else if (strcmp(name, "random") == 0 && count > 2)
         random_calls(strtoul(words[2], NULL, 10));
     else
-        stop("usage: check coded|readings|edits|windows CASE..|places|all_places|parts|random SEED");
+        stop("usage: check coded|readings|edits|windows CASE..|places|parts|random SEED");
     return 0;
 }
