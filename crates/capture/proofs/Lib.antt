@@ -1,3 +1,4 @@
 -- The demands, proved of the definitions.
+pub mod Parting
 pub mod ReadLaws
 pub mod Demand2

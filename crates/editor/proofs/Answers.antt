@@ -15,7 +15,7 @@ use Rattle.answer.specs.Numbers.{allDone, outsideSet, wrongLength, spareBit, li
 use Rattle.answer.specs.Rows.{Row, done, refused, answerOf, whole, buffers, bufferPlace}
 use Rattle.answer.specs.Outcomes.{Outcome, written}
 use Rattle.answer.specs.declared.Answer.{Answer}
-use Rattle.answer.proofs.Table.{inTurn, row-whole, row-buffers, row-found}
+use Rattle.answer.proofs.Table.{inTurn, row-whole, row-buffers, row-found, guard}
 use Rattle.answer.proofs.Meets.{meets-done, meets-refused}
 use Rattle.line.specs.Sizes.{parityBytes, captureLength, words}
 use Rattle.line.specs.Captures.{superAllowed, wrong}
@@ -110,11 +110,6 @@ judged-answer N b bits parity cap list r e n =
 
 zero-not : (k : ℕ) → 0 ≡ suc k → ⊥
 zero-not k e = omega arith
-
--- a test that refuses with a number above 0 was passed
-guard : (t : Bool) (k p : ℕ) (y : Answer) → cond t (refused (suc k) p) y .number ≡ allDone → (t ≡ false) × (y .number ≡ allDone)
-guard true k p y e = absurd (omega arith)
-guard false k p y e = (refl, e)
 
 -- what the judgement shows where it does not refuse
 pub record Fitting (N b bits parity cap list : ℕ) : Type 0 where

@@ -9,7 +9,7 @@ use borrow.Author.Tests.{ltb-true, ltb-false, leb-true, leb-false, eqb-true, eq-
 use lib.Dec.{ltb, leb, eqb}
 use lib.ListN.{length, getD}
 use Rattle.bits.specs.Loops.{count}
-use Rattle.answer.proofs.Table.{clash, and-left, and-right}
+use Rattle.bits.proofs.Common.{clash, and-left, and-right}
 use Rattle.hamming.specs.Code.{checksOf}
 use Rattle.line.specs.Words.{wordIn}
 use Rattle.line.specs.Sizes.{clientBlocks, fecBlocks, elementBits, superElements, fecElements, infoElements, words}

@@ -13,7 +13,7 @@ use lib.ListN.{length, getD, set, drop, length-append, List·getD-append}
 use lib.Seq.{drop-cons, set-at, getD-at}
 use Rattle.bits.specs.Loops.{count}
 use Rattle.bits.proofs.Counting.{count-ext, count-add}
-use Rattle.answer.proofs.Table.{clash, and-left, and-right}
+use Rattle.bits.proofs.Common.{clash, and-left, and-right}
 use Rattle.editor.specs.Edit.{picked}
 
 -- ---- entries

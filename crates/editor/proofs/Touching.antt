@@ -7,7 +7,7 @@ use native.Mathlib.Nat.{not-suc-le-zero, eq-or-lt-of-le, le-of-suc-le-suc}
 use native.Mathlib.Omega.{arith}
 use borrow.Author.Tests.{ltb-true, ltb-false, leb-true, leb-false, lt-ltb, le-ltb, le-leb, lt-leb}
 use lib.Dec.{ltb, leb, eqb}
-use Rattle.answer.proofs.Table.{clash, and-left, and-right}
+use Rattle.bits.proofs.Common.{clash, and-left, and-right}
 use Rattle.line.specs.Sizes.{blockBits, infoBits, mbasFrom, parityFrom, elementBits, fecElements, infoElements}
 use Rattle.editor.specs.Edit.{blockFrom, inBlock, touched, touches}
 

@@ -9,7 +9,7 @@ use native.Mathlib.Omega.{arith}
 use Rattle.bits.specs.Loops.{first, count}
 use Rattle.bits.proofs.LoopLaws.{First, first-holds, first-is, first-none}
 use Rattle.bits.proofs.Counting.{count-ext, count-add, count-le}
-use Rattle.answer.proofs.Table.{clash}
+use Rattle.bits.proofs.Common.{clash}
 use Rattle.gmp.specs.Places.{places, isData}
 use Rattle.gmp.specs.Runs.{changes, lastOfRun, runsFrom, EndsRun}
 

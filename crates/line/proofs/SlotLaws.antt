@@ -9,7 +9,7 @@ use lib.Dec.{ltb, leb}
 use Rattle.bits.specs.Loops.{count}
 use Rattle.bits.specs.Bits.{Bits}
 use Rattle.bits.proofs.Counting.{count-ext}
-use Rattle.answer.proofs.Table.{and-left, and-right, clash}
+use Rattle.bits.proofs.Common.{and-left, and-right, clash}
 use Rattle.line.specs.Sizes.{superElements, words}
 use Rattle.line.specs.Slots.{delay, slotOf, elementIn, holds, slotBit}
 

@@ -12,7 +12,8 @@ use Rattle.answer.specs.Numbers.{outsideSet, wrongLength, beyondRepair, fillerN
 use Rattle.answer.specs.Rows.{Row, done, refused, answerOf, whole, buffers, bufferPlace}
 use Rattle.answer.specs.Outcomes.{Outcome, written}
 use Rattle.answer.specs.declared.Answer.{Answer}
-use Rattle.answer.proofs.Table.{row-whole, row-buffers, inTurn, and-left, and-right}
+use Rattle.answer.proofs.Table.{row-whole, row-buffers, inTurn}
+use Rattle.bits.proofs.Common.{and-left, and-right}
 use Rattle.answer.proofs.Meets.{meets-done, meets-refused}
 use Rattle.line.specs.Sizes.{fecBlocks, infoLength, parityLength, captureLength, words}
 use Rattle.line.specs.Captures.{superAllowed, wrong}

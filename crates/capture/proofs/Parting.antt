@@ -1,0 +1,59 @@
+-- The request for the information of an FEC block: the code's tests are the table, and what a granted request has shown. Assumes nothing.
+use Prim.Native.Nat.{ℕ, _+_, _-_, _*_, _≤_, _<_}
+use mathlib.Core.Bool.{Bool, true, false, cond, not, _&&_}
+use mathlib.Core.Path.{_≡_, refl, sym, ap, _∙_}
+use mathlib.Core.List.{List, [], _∷_}
+use native.Mathlib.Nat.{add-sub-cancel-left}
+use native.Mathlib.Omega.{arith}
+use borrow.Author.Tests.{ltb-true, not-false}
+use lib.Dec.{ltb}
+use lib.ListN.{length, take, drop}
+use Rattle.answer.specs.Numbers.{allDone, outsideSet, wrongLength}
+use Rattle.answer.specs.Rows.{done, refused, answerOf, bufferPlace, buffers}
+use Rattle.answer.specs.declared.Answer.{Answer}
+use Rattle.answer.proofs.Table.{row-whole, row-buffers, inTurn, guard, two-tests}
+use Rattle.answer.proofs.Meets.{written-done, written-refused}
+use Rattle.line.specs.Sizes.{infoBytes, fecBlocks, infoLength}
+use Rattle.line.specs.Captures.{superAllowed, wrong}
+use Rattle.line.proofs.CaptureLaws.{super-frames, not-wrong}
+use Rattle.capture.specs.Part.{partRows, partAnswer, partOf}
+
+-- the table as a chain of tests
+pub part-chain : (N t : ℕ) (info : List ℕ)
+    → partAnswer N t info ≡ cond (not (superAllowed N)) (refused outsideSet 0) (cond (not (ltb t (fecBlocks * N))) (refused outsideSet 0) (cond (wrong (infoLength N) info) (refused wrongLength (bufferPlace 1)) (done 0)))
+unfolding partAnswer partRows inTurn answerOf
+part-chain N t info =
+    let wrongs = wrong (infoLength N) info ∷ [] in
+    row-whole outsideSet (not (superAllowed N && ltb t (fecBlocks * N))) (buffers wrongLength wrongs ∷ []) 0
+    ∙ ap (cond (not (superAllowed N && ltb t (fecBlocks * N))) (refused outsideSet 0)) (row-buffers wrongLength wrongs [] 0)
+    ∙ two-tests (superAllowed N) (ltb t (fecBlocks * N)) (refused outsideSet 0) (inTurn wrongLength wrongs 1 (done 0))
+
+-- a granted request
+pub record Part (N t : ℕ) (info : List ℕ) : Type 0 where
+  pub few : N < 9
+  pub block : t < fecBlocks * N
+  pub long : length info ≡ infoLength N
+
+pub granted-part : (N t : ℕ) (info : List ℕ) (r : Answer) → r ≡ partAnswer N t info → r .number ≡ allDone → Part N t info
+granted-part N t info r e z =
+    let g₁ = guard (not (superAllowed N)) 0 0 _ (ap (λ (x : Answer). x .number) (sym (e ∙ part-chain N t info)) ∙ z) in
+    let g₂ = guard (not (ltb t (fecBlocks * N))) 0 0 _ (g₁ .1) in
+    let g₃ = guard (wrong (infoLength N) info) 1 (bufferPlace 1) _ (g₂ .1) in
+    record {
+      few = super-frames N (not-false (superAllowed N) (g₁ .0)) .few;
+      block = ltb-true t (fecBlocks * N) (not-false (ltb t (fecBlocks * N)) (g₂ .0));
+      long = not-wrong (infoLength N) info (g₃ .0);
+    }
+
+-- the part itself, as the code cuts it out, or the empty part
+pub part-given : (N t : ℕ) (info : List ℕ) (r : Answer) → r ≡ partAnswer N t info → r .number ≡ allDone
+    → take (infoBytes * t + infoBytes - infoBytes * t) (drop (infoBytes * t) info) ≡ partOf N t info
+unfolding partOf
+part-given N t info r e z =
+    ap (λ (k : ℕ). take k (drop (infoBytes * t) info)) (add-sub-cancel-left (infoBytes * t) infoBytes)
+    ∙ sym (written-done (partAnswer N t info) (take infoBytes (drop (infoBytes * t) info)) [] (ap (λ (x : Answer). x .number) (sym e) ∙ z))
+
+pub part-empty : (N t : ℕ) (info : List ℕ) (r : Answer) → r ≡ partAnswer N t info → (r .number ≡ allDone → ⊥) → [] ≡ partOf N t info
+unfolding partOf
+part-empty N t info r e z =
+    sym (written-refused (partAnswer N t info) (take infoBytes (drop (infoBytes * t) info)) [] (λ h. z (ap (λ (x : Answer). x .number) e ∙ h)))
