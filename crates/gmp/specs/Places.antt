@@ -1,5 +1,5 @@
 -- Document 01, "GMP places" (ITU-T G.709 Annex D): the places of a four-frame envelope and their kinds. Assumes nothing: these are definitions.
-use Prim.Native.Nat.{ℕ, suc, _+_, _*_, _%_, _≤_}
+use Prim.Native.Nat.{ℕ, _+_, _*_, _%_, _≤_}
 use mathlib.Core.Bool.{Bool, cond}
 use lib.Dec.{ltb}
 use Rattle.bits.specs.Loops.{count}
