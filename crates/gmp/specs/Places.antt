@@ -14,6 +14,10 @@ places = 10220
 abbrev pub groupBits : ℕ
 groupBits = 1028
 
+-- two places, or two groups, are so many bytes
+abbrev pub pairBytes : ℕ
+pairBytes = 257
+
 -- "For a count C in 0..10,220, place j in 1..10,220 is data if (j·C) mod P < C, else stuff"
 unfoldable pub isData : ℕ → ℕ → Bool
 isData c j = ltb (j * c % places) c
