@@ -94,20 +94,20 @@ fails-listed N b cap w h = rw h
 
 -- the first element of the client block's FEC block, and the k-th of the elements that hold a touched bit: first the last 138, then the
 -- client block's own
-abbrev start : ℕ → ℕ
+abbrev pub start : ℕ → ℕ
 start b = superElements * (fecOf b / fecBlocks) + fecElements * (fecOf b % fecBlocks)
 
-unfoldable own : ℕ → ℕ → ℕ
+unfoldable pub own : ℕ → ℕ → ℕ
 own b k = cond (ltb k 138) (infoElements + k) (blockFrom b / elementBits + (k - 138))
 
-unfoldable slotNo : ℕ → ℕ → ℕ
+unfoldable pub slotNo : ℕ → ℕ → ℕ
 slotNo b k = slotOf (start b + own b k)
 
-own-tail : (b k : ℕ) → k < 138 → own b k ≡ infoElements + k
+pub own-tail : (b k : ℕ) → k < 138 → own b k ≡ infoElements + k
 unfolding own
 own-tail b k h = rw (lt-ltb k 138 h)
 
-own-block : (b j : ℕ) → own b (138 + j) ≡ blockFrom b / elementBits + j
+pub own-block : (b j : ℕ) → own b (138 + j) ≡ blockFrom b / elementBits + j
 unfolding own
 own-block b j = let e : 138 + j - 138 ≡ j = omega arith in rw (le-ltb (138 + j) 138 (omega arith), e)
 
@@ -141,7 +141,7 @@ unfolding elementLocal
 local-lt e = omega arith
 
 -- so a listed word is the slot of one of those
-listed-slot : (N b w : ℕ) → listed N b w ≡ true → In (slotNo b) (listedCount b) w
+pub listed-slot : (N b w : ℕ) → listed N b w ≡ true → In (slotNo b) (listedCount b) w
 unfolding slotNo
 listed-slot N b w h =
     let l = listed-holding N b w h in
