@@ -1,23 +1,22 @@
 -- Which words are listed: what `listed` means, how many there are, and the list of them. Assumes nothing.
 use Prim.Native.Nat.{ℕ, suc, _+_, _-_, _*_, _/_, _%_, _≤_, _<_}
-use mathlib.Core.Bool.{Bool, true, false, cond, not, _&&_}
-use mathlib.Core.Path.{_≡_, refl, sym, ap, ap₂, _∙_}
+use mathlib.Core.Bool.{true, false, cond, not, _&&_}
+use mathlib.Core.Path.{_≡_, sym, ap, _∙_}
 use mathlib.Core.List.{List}
 use native.Mathlib.Decide.{decLt}
 use native.Mathlib.Omega.{arith}
-use borrow.Author.Tests.{ltb-true, ltb-false, leb-true, leb-false, eqb-true, eq-eqb, ne-eqb, lt-ltb, le-ltb, le-leb, lt-leb, not-true}
-use lib.Dec.{ltb, leb, eqb}
-use lib.ListN.{length, getD}
+use borrow.Author.Tests.{leb-false, eqb-true, eq-eqb, ne-eqb, lt-ltb, le-ltb, le-leb, lt-leb, not-true}
+use lib.Dec.{ltb, eqb}
 use Rattle.bits.specs.Loops.{count}
 use Rattle.answer.proofs.Table.{clash, and-left, and-right}
 use Rattle.hamming.specs.Code.{checksOf}
 use Rattle.line.specs.Words.{wordIn}
-use Rattle.line.specs.Sizes.{clientBlocks, fecBlocks, elementBits, superElements, fecElements, infoElements, words}
+use Rattle.line.specs.Sizes.{fecBlocks, elementBits, superElements, fecElements, infoElements}
 use Rattle.line.specs.Slots.{slotOf, elementIn, holds}
-use Rattle.line.proofs.SlotLaws.{held, element-slot, slot-lt, slot-once, holds-slot}
-use Rattle.editor.specs.Edit.{blocksOf, fecOf, blockFrom, touched, elementFec, elementLocal, isPad, touches, listed, picked, listOf, fails}
-use Rattle.editor.proofs.Touching.{Touch, touches-at, touches-some, element-tail, element-block, element-before, element-past}
-use Rattle.editor.proofs.Picking.{length-picked, Ranked, picked-entry, picked-rises, picked-room, picked-has, In, count-few, count-many}
+use Rattle.line.proofs.SlotLaws.{held}
+use Rattle.editor.specs.Edit.{fecOf, blockFrom, elementFec, elementLocal, isPad, touches, listed, fails}
+use Rattle.editor.proofs.Touching.{Touch, touches-at, touches-some, element-before, element-past}
+use Rattle.editor.proofs.Picking.{In, count-few}
 
 -- ---- what it means: the word holds element e of the client block's FEC block, and one of its bits is touched
 

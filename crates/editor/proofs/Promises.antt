@@ -1,24 +1,24 @@
 -- What an edit promises: which number is answered, exactly; which words are listed, and how many; what every word holds afterwards.
 -- Assumes nothing.
-use Prim.Native.Nat.{ℕ, suc, _+_, _-_, _*_, _/_, _%_, _≤_, _<_}
-use mathlib.Core.Bool.{Bool, true, false}
+use Prim.Native.Nat.{ℕ, _+_, _-_, _*_, _/_, _%_, _≤_, _<_}
+use mathlib.Core.Bool.{true, false}
 use mathlib.Core.Path.{_≡_, refl, sym, ap, _∙_}
 use mathlib.Core.List.{List}
 use native.Mathlib.Omega.{arith}
 use lib.ListN.{length, getD}
 use Rattle.bits.specs.Loops.{count}
 use Rattle.bits.proofs.Common.{by-bound}
-use Rattle.answer.specs.Numbers.{allDone, outsideSet, wrongLength, spareBit, listedFails}
+use Rattle.answer.specs.Numbers.{allDone}
 use Rattle.answer.specs.Rows.{Row, done, refused, Applies, Least, rising}
 use Rattle.answer.proofs.Table.{answered-least, least-answered, answered-done, done-answered, refusal-count}
 use Rattle.line.specs.Sizes.{fecBlocks, elementBits, superElements, fecElements, infoElements, captureLength, words}
-use Rattle.line.specs.Slots.{slotOf, elementIn, holds}
-use Rattle.line.specs.Words.{wordAt, symbolAt, symbolPlace, wordIn, wordsOf, fecIn}
+use Rattle.line.specs.Slots.{slotOf, elementIn}
+use Rattle.line.specs.Words.{wordAt, symbolAt, wordIn, wordsOf, fecIn}
 use Rattle.line.proofs.SlotLaws.{element-slot, slot-lt, slot-once, holds-slot}
 use Rattle.line.proofs.WordLaws.{word-laid, word-lt, word-symbol, symbol-lt, place-back}
-use Rattle.editor.specs.Edit.{blocksOf, fecOf, blockFrom, editedFec, elementFec, elementLocal, touches, listed, picked, listOf, editedWord, editedCapture, editRows, editAnswer}
+use Rattle.editor.specs.Edit.{blocksOf, fecOf, blockFrom, editedFec, elementFec, elementLocal, touches, listed, listOf, editedWord, editedCapture, editRows, editAnswer}
 use Rattle.editor.proofs.Touching.{element-tail, element-block, touches-some}
-use Rattle.editor.proofs.Picking.{length-picked, Ranked, picked-entry, picked-rises, picked-room, picked-has, count-few, count-many}
+use Rattle.editor.proofs.Picking.{length-picked, picked-entry, picked-rises, picked-room, picked-has, count-few, count-many}
 use Rattle.editor.proofs.Listing.{start, own, own-tail, own-block, slotNo, listedCount, listed-slot, listed-count-ge, listed-count-le, holding-listed}
 use Rattle.editor.proofs.Passes.{edited-long, edited-kept}
 
@@ -62,7 +62,7 @@ unfolding listedCount
 own-touched b k h =
     by-bound 138 k (λ l. rw (own-tail b k l) (element-tail b (infoElements + k) (omega arith)))
     (λ l. let e : k ≡ 138 + (k - 138) = omega arith in
-      rw (e, own-block b (k - 138)) (element-block b (blockFrom b / elementBits + (k - 138)) (omega arith) (omega arith)))
+    rw (e, own-block b (k - 138)) (element-block b (blockFrom b / elementBits + (k - 138)) (omega arith) (omega arith)))
 
 own-differ : (b i j : ℕ) → i < j → j < listedCount b → own b i ≡ own b j → ⊥
 unfolding listedCount
@@ -70,11 +70,11 @@ own-differ b i j h l q =
     by-bound 138 j
     (λ m. let p = own-tail b i (omega arith) in let r = own-tail b j m in omega (arith, p, r))
     (λ m. let e : j ≡ 138 + (j - 138) = omega arith in
-      let r : own b j ≡ blockFrom b / elementBits + (j - 138) = ap (own b) e ∙ own-block b (j - 138) in
-      by-bound 138 i (λ n. let p = own-tail b i n in omega (arith, p, r))
-      (λ n. let d : i ≡ 138 + (i - 138) = omega arith in
-        let p : own b i ≡ blockFrom b / elementBits + (i - 138) = ap (own b) d ∙ own-block b (i - 138) in
-        omega (arith, p, r)))
+    let r : own b j ≡ blockFrom b / elementBits + (j - 138) = ap (own b) e ∙ own-block b (j - 138) in
+    by-bound 138 i (λ n. let p = own-tail b i n in omega (arith, p, r))
+    (λ n. let d : i ≡ 138 + (i - 138) = omega arith in
+    let p : own b i ≡ blockFrom b / elementBits + (i - 138) = ap (own b) d ∙ own-block b (i - 138) in
+    omega (arith, p, r)))
 
 -- local element m of FEC block c of super frame f
 module _ (f c m : ℕ) (hc : c < fecBlocks) (hm : m < fecElements) where
@@ -98,9 +98,10 @@ module _ (N b : ℕ) (within : b < blocksOf N) where
       let e = at-mod (fecOf b / fecBlocks) (fecOf b % fecBlocks) m (omega arith) h in (omega arith, rw e (omega arith))
 
   own-fec : (m : ℕ) → m < fecElements → (elementFec (start b + m) ≡ fecOf b) × (elementLocal (start b + m) ≡ m)
-  own-fec m h =
-      (at-fec (fecOf b / fecBlocks) (fecOf b % fecBlocks) m (omega arith) h ∙ (omega arith),
-      at-local (fecOf b / fecBlocks) (fecOf b % fecBlocks) m (omega arith) h)
+  own-fec m h = (
+    at-fec (fecOf b / fecBlocks) (fecOf b % fecBlocks) m (omega arith) h ∙ (omega arith),
+    at-local (fecOf b / fecBlocks) (fecOf b % fecBlocks) m (omega arith) h,
+  )
 
   slot-listed : (k : ℕ) → k < listedCount b → (slotNo b k < words N) × (listed N b (slotNo b k) ≡ true)
   unfolding slotNo
@@ -109,14 +110,15 @@ module _ (N b : ℕ) (within : b < blocksOf N) where
       let e = start b + own b k in
       let x = own-element (own b k) m in
       let y = own-fec (own b k) m in
-      let t : touches b (elementBits * elementLocal (elementIn (slotOf e))) elementBits ≡ true = rw (element-slot e, y .1) (own-touched b k h) in
-      (slot-lt N e (x .0),
-      holding-listed N b (slotOf e) (record {
-        element = holds-slot N e (x .0);
-        no-pad = rw (element-slot e) (x .1);
-        block = rw (element-slot e) (y .0);
-        touch = touches-some b (elementBits * elementLocal (elementIn (slotOf e))) elementBits t;
-      }))
+      let t : touches b (elementBits * elementLocal (elementIn (slotOf e))) elementBits ≡ true = rw (element-slot e, y .1) (own-touched b k h) in (
+        slot-lt N e (x .0),
+        holding-listed N b (slotOf e) (record {
+          element = holds-slot N e (x .0);
+          no-pad = rw (element-slot e) (x .1);
+          block = rw (element-slot e) (y .0);
+          touch = touches-some b (elementBits * elementLocal (elementIn (slotOf e))) elementBits t;
+        }),
+      )
 
   slots-differ : (i j : ℕ) → i < j → j < listedCount b → slotNo b i ≡ slotNo b j → ⊥
   unfolding slotNo
