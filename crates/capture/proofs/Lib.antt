@@ -2,3 +2,4 @@
 pub mod Parting
 pub mod ReadLaws
 pub mod Demand2
+pub mod Demand3
