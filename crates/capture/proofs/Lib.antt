@@ -3,3 +3,4 @@ pub mod Parting
 pub mod ReadLaws
 pub mod Demand2
 pub mod Demand3
+pub mod Demands
