@@ -4,3 +4,4 @@ pub mod ReadLaws
 pub mod Demand2
 pub mod Demand3
 pub mod Demands
+pub mod Unique
