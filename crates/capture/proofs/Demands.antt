@@ -30,20 +30,11 @@ use Rattle.editor.specs.Edit.{blocksOf, blockBytes, listLength, listed, listOf,
 use Rattle.editor.proofs.Listing.{Holding, listed-holding, holding-listed}
 use Rattle.editor.proofs.Promises.{Lists, list-is, byte-kept}
 use Rattle.capture.specs.Damage.{Input, Choice, chosen, hurt, damaged, howMany}
-use Rattle.capture.specs.Edits.{newInfo, newParity}
+use Rattle.capture.specs.Edits.{EditInput, newInfo, newParity}
 use Rattle.capture.proofs.Demand2.{ReadBack, demand-2, clean, no-4, no-5, block-read, mbas-read, lengths-right, none-left, right}
 use Rattle.capture.proofs.Demand3.{coded-words, edit-is-coding}
 
 -- ---- demand 3
-
--- what is asked of an edit: any block of the capture, buffers of the stated lengths, spare bits zero
-pub record EditInput (N b : ℕ) (bits parity list : List ℕ) : Type 0 where
-  pub frames : superAllowed N ≡ true
-  pub block : b < blocksOf N
-  pub bits-long : length bits ≡ blockBytes
-  pub spare : spareSet bits ≡ false
-  pub parity-long : length parity ≡ parityBytes
-  pub list-long : length list ≡ listLength
 
 module _ (N m0 b : ℕ) (bits parity info par list : List ℕ) (input : EditInput N b bits parity list) where
   abbrev cap : List ℕ
