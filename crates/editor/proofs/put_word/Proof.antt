@@ -30,7 +30,7 @@ slice-write-capture : tie.Need-slice-write-capture Inv-loop μ-loop
 slice-write-capture c =
     let s = c .before .before .before .before in
     let k = c .before .before .loop .k in
-    omega (arith, c .place .ensures, s .pre .1 k (c .before .loop-test .taken), c .before .before .loop .inv .1)
+    omega (arith, c .place .ensures, s .pre .1 k (omega arith), c .before .before .loop .inv .1)
 
 add-k : tie.Need-add-k Inv-loop μ-loop
 add-k c = omega arith
