@@ -86,7 +86,7 @@ coded-now N m0 info par cap {r} {out} input long o =
     let e : codeAnswer N m0 info par cap ≡ done (words N) =
         row-none _ _ (words N) (λ p l. rw (input .frames, input .number))
         ∙ row-buffers wrongLength wrongs [] (words N)
-        ∙ rw (right (infoLength N) info (input .info-long), right (parityLength N) par (input .parity-long), right (captureLength N) cap long)
+        ∙ (rw (right (infoLength N) info (input .info-long), right (parityLength N) par (input .parity-long), right (captureLength N) cap long))
         ∙ none-left (words N) in
     let z : codeAnswer N m0 info par cap .number ≡ allDone = ap (λ (x : Answer). x .number) e in
     record {

@@ -1,9 +1,9 @@
 -- Turning the chosen bits byte by byte is the damage that demand 2 speaks of. Assumes nothing.
-use Prim.Native.Nat.{ℕ, _+_, _*_, _/_, _%_, _^_, _≤_, _<_}
+use Prim.Native.Nat.{ℕ, zero, suc, _+_, _*_, _/_, _%_, _^_, _≤_, _<_}
 use mathlib.Core.Bool.{Bool, true, false, cond}
 use mathlib.Core.Path.{_≡_, refl, sym, ap, _∙_}
-use mathlib.Core.List.{List}
-use native.Mathlib.Nat.{lt-irrefl}
+use mathlib.Core.List.{List, [], _∷_}
+use native.Mathlib.Nat.{lt-irrefl, not-suc-le-zero, le-of-suc-le-suc}
 use native.Mathlib.Decide.{ℕ-discrete}
 use native.Mathlib.Omega.{arith}
 use borrow.Author.Tests.{ltb-true, ltb-false, eq-eqb, ne-eqb}
@@ -55,3 +55,9 @@ hurt-bytes N flips cap h =
     ∙ ap (λ (x : ℕ). cond (eqb (choiceOf flips (wordAt b) / 8) (symbolAt b)) (bitXor x (128 / 2 ^ (choiceOf flips (wordAt b) % 8))) x)
     (word-symbol cap (wordAt b) (symbolAt b) (symbol-lt b) ∙ ap (λ (x : ℕ). getD cap x 0) (place-back b))
     ∙ spell flips cap b)))
+
+-- within a list the default does not matter
+pub getD-any : (s : List ℕ) (k a b : ℕ) → k < length s → getD s k a ≡ getD s k b
+getD-any [] k a b h = absurd (not-suc-le-zero h)
+getD-any (x ∷ s) zero a b h = refl
+getD-any (x ∷ s) (suc k) a b h = getD-any s k a b (le-of-suc-le-suc h)

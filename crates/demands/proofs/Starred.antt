@@ -18,5 +18,5 @@ pub starred :
     ∷ slotOf 0 ∷ slotOf 15 ∷ slotOf 16 ∷ slotOf 10976 ∷ symbolPlace 9 2 ∷ (pack 3 o ++ coded (λ i. 0)))
     ≡ (0 ∷ 1 ∷ 0 ∷ 1 ∷ 0 ∷ 0 ∷ 1
     ∷ 480 ∷ 15 ∷ 496 ∷ 11456 ∷ 145 ∷ 0xFF ∷ 0xFF ∷ 0x4E ∷ replicate 16 0)
-unfolding slotOf delay symbolPlace
+unfolding isData slotOf delay symbolPlace
 starred = rw (o-24, coded-zero)

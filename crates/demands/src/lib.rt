@@ -2,6 +2,8 @@
 // be proved.
 use answer::Answer;
 ghost use mathlib.Core.Path.{_≡_};
+ghost use mathlib.Core.List.{List};
+ghost use Prim.Native.Nat.{ℕ};
 ghost use lib.ListN.{length};
 ghost use Rattle.answer.specs.Numbers.{allDone};
 ghost use Rattle.coder.specs.Code.{codeRows};
@@ -22,7 +24,7 @@ pub fn code(n: u64, m0: u64, info: &[u8], parity: &[u8], capture: &mut [u8]) -> 
 // Demand 1 of reading.
 pub fn read(n: u64, m0: u64, capture: &[u8], info: &mut [u8], parity: &mut [u8]) -> Answer
     ensures {
-        λ r. ⌜ Refuses (readRows n m0 (now (capture .entry)) (now (info .entry)) (now (parity .entry))) (now (info .entry), now (parity .entry)) r
+        λ r. ⌜ Refuses {B = List ℕ × List ℕ} (readRows n m0 (now (capture .entry)) (now (info .entry)) (now (parity .entry))) (now (info .entry), now (parity .entry)) r
             (now (info .exit), now (parity .exit)) ⌝
     }
 {
@@ -32,7 +34,7 @@ pub fn read(n: u64, m0: u64, capture: &[u8], info: &mut [u8], parity: &mut [u8])
 // Demand 1 of editing.
 pub fn edit(n: u64, block: u64, bits: &[u8], parity: &[u8], capture: &mut [u8], list: &mut [u64]) -> Answer
     ensures {
-        λ r. ⌜ Refuses (editRows n block (now (bits .entry)) (now (parity .entry)) (now (capture .entry)) (now (list .entry)))
+        λ r. ⌜ Refuses {B = List ℕ × List ℕ} (editRows n block (now (bits .entry)) (now (parity .entry)) (now (capture .entry)) (now (list .entry)))
             (now (capture .entry), now (list .entry)) r (now (capture .exit), now (list .exit)) ⌝
     }
 {
@@ -88,7 +90,7 @@ fn choice(flips: &[u8], w: usize) -> usize
     ensures { λ r. ⌜ Chosen (now (flips .entry)) w r ⌝ }
 {
     if w < flips.len() {
-        return flips[w] as usize;
+        return bits::wide(flips[w]) as usize;
     }
     128
 }
