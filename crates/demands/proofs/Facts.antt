@@ -15,6 +15,9 @@ use Rattle.answer.proofs.Table.{answered-least, refusal-count, row-none, row-bu
 use Rattle.answer.proofs.Meets.{written-done, written-refused}
 use Rattle.line.specs.Sizes.{infoLength, parityLength, captureLength, words}
 use Rattle.line.specs.Captures.{superAllowed, wrong}
+use Rattle.line.specs.Fec.{fecBit}
+use Rattle.line.specs.Words.{wordsOf}
+use Rattle.line.proofs.WordLaws.{length-laid}
 use Rattle.coder.specs.Code.{captureOf, codeRows, codeAnswer, codeLeaves}
 use Rattle.reader.specs.Read.{readRows, readAnswer, readLeaves}
 use Rattle.editor.specs.Edit.{listed, listOf, editRows, editAnswer, editLeaves}
@@ -84,24 +87,28 @@ unfolding codeAnswer codeRows codeLeaves inTurn
 coded-now N m0 info par cap {r} {out} input long o =
     let wrongs = wrong (infoLength N) info ∷ wrong (parityLength N) par ∷ wrong (captureLength N) cap ∷ [] in
     let e : codeAnswer N m0 info par cap ≡ done (words N) =
-        row-none _ _ (words N) (λ p l. rw (input .frames, input .number))
-        ∙ row-buffers wrongLength wrongs [] (words N)
-        ∙ (rw (right (infoLength N) info (input .info-long), right (parityLength N) par (input .parity-long), right (captureLength N) cap long))
-        ∙ none-left (words N) in
+    row-none _ _ (words N) (λ p l. rw (input .frames, input .number))
+    ∙ row-buffers wrongLength wrongs [] (words N)
+    ∙ (rw (right (infoLength N) info (input .info-long), right (parityLength N) par (input .parity-long), right (captureLength N) cap long))
+    ∙ none-left (words N) in
     let z : codeAnswer N m0 info par cap .number ≡ allDone = ap (λ (x : Answer). x .number) e in
     record {
       granted = ap (λ (x : Answer). x .number) (o .told) ∙ z;
       capture = o .kept ∙ written-done (codeAnswer N m0 info par cap) (captureOf N m0 info par) cap z;
     }
 
+capture-long : (N m0 : ℕ) (info par : List ℕ) → length (captureOf N m0 info par) ≡ captureLength N
+unfolding captureOf
+capture-long N m0 info par = length-laid N (wordsOf N (fecBit m0 info par))
+
 -- ---- demand 2
 
 pub reads-back : (N m0 : ℕ) (info par flips cap cap′ info₀ par₀ : List ℕ) {r : Answer} {back parityBack : List ℕ} → Input N m0 info par → cap ≡ captureOf N m0 info par
-    → length cap ≡ captureLength N → cap′ ≡ hurtBytes flips cap → length info₀ ≡ infoLength N → length par₀ ≡ parityLength N
+    → cap′ ≡ hurtBytes flips cap → length info₀ ≡ infoLength N → length par₀ ≡ parityLength N
     → Outcome (readAnswer N m0 cap′ info₀ par₀) (readLeaves N m0 cap′ info₀ par₀) r (back, parityBack) → ReadsBack N m0 info par flips r back parityBack
-reads-back N m0 info par flips cap cap′ info₀ par₀ {r} {back} {parityBack} input made long hurtNow i₀ p₀ o =
+reads-back N m0 info par flips cap cap′ info₀ par₀ {r} {back} {parityBack} input made hurtNow i₀ p₀ o =
     let d = demand-2 N m0 info par input (choiceOf flips) in
-    let q : cap′ ≡ damaged N (choiceOf flips) (captureOf N m0 info par) = hurtNow ∙ hurt-bytes N flips cap long ∙ ap (damaged N (choiceOf flips)) made in
+    let q : cap′ ≡ damaged N (choiceOf flips) (captureOf N m0 info par) = hurtNow ∙ hurt-bytes N flips cap (ap length made ∙ capture-long N m0 info par) ∙ ap (damaged N (choiceOf flips)) made in
     let k : _≡_ {A = List ℕ × List ℕ} (back, parityBack) (info, par) = o .kept ∙ ap (λ (s : List ℕ). readLeaves N m0 s info₀ par₀) q ∙ d .leaves info₀ par₀ i₀ p₀ in
     record {
       answer = o .told ∙ ap (λ (s : List ℕ). readAnswer N m0 s info₀ par₀) q ∙ d .answer info₀ par₀ i₀ p₀;
@@ -116,7 +123,7 @@ pub edits-as-coded : (N m0 b : ℕ) (info par bits parity cap list : List ℕ) {
 edits-as-coded N m0 b info par bits parity cap list {r} {cap′} {list′} made input o =
     let d = demand-3 N m0 b bits parity info par list input in
     let k : _≡_ {A = List ℕ × List ℕ} (cap′, list′) (captureOf N m0 (newInfo N b bits info) (newParity N b parity par), listOf N b ++ drop (count (listed N b) (words N)) list) =
-        o .kept ∙ ap (λ (s : List ℕ). editLeaves N b bits parity s list) made ∙ d .leaves in
+    o .kept ∙ ap (λ (s : List ℕ). editLeaves N b bits parity s list) made ∙ d .leaves in
     record {
       answer = o .told ∙ ap (λ (s : List ℕ). editAnswer N b bits parity s list) made ∙ d .answer;
       capture = ap (λ (x : List ℕ × List ℕ). x .0) k;

@@ -14,29 +14,30 @@ ghost use Rattle.demands.specs.Hurt.{hurtByte, hurtBytes, Chosen};
 
 // Demand 1 of coding.
 pub fn code(n: u64, m0: u64, info: &[u8], parity: &[u8], capture: &mut [u8]) -> Answer
-    ensures {
-        λ r. ⌜ Refuses (codeRows n m0 (now (info .entry)) (now (parity .entry)) (now (capture .entry))) (now (capture .entry)) r (now (capture .exit)) ⌝
-    }
+    ensures { λ r. ⌜ Refuses (codeRows n m0 (now (info .entry)) (now (parity .entry)) (now (capture .entry))) (now (capture .entry)) r (now (capture .exit)) ⌝ }
 {
     capture::code(n, m0, info, parity, capture)
 }
 
 // Demand 1 of reading.
 pub fn read(n: u64, m0: u64, capture: &[u8], info: &mut [u8], parity: &mut [u8]) -> Answer
-    ensures {
-        λ r. ⌜ Refuses {B = List ℕ × List ℕ} (readRows n m0 (now (capture .entry)) (now (info .entry)) (now (parity .entry))) (now (info .entry), now (parity .entry)) r
-            (now (info .exit), now (parity .exit)) ⌝
-    }
+    ensures { λ r. ⌜ Refuses {B = List ℕ × List ℕ} (readRows n m0 (now (capture .entry)) (now (info .entry)) (now (parity .entry))) (now (info .entry), now (parity .entry)) r
+        (now (info .exit), now (parity .exit)) ⌝ }
 {
     capture::read(n, m0, capture, info, parity)
 }
 
 // Demand 1 of editing.
-pub fn edit(n: u64, block: u64, bits: &[u8], parity: &[u8], capture: &mut [u8], list: &mut [u64]) -> Answer
-    ensures {
-        λ r. ⌜ Refuses {B = List ℕ × List ℕ} (editRows n block (now (bits .entry)) (now (parity .entry)) (now (capture .entry)) (now (list .entry)))
-            (now (capture .entry), now (list .entry)) r (now (capture .exit), now (list .exit)) ⌝
-    }
+pub fn edit(
+    n: u64,
+    block: u64,
+    bits: &[u8],
+    parity: &[u8],
+    capture: &mut [u8],
+    list: &mut [u64],
+) -> Answer
+    ensures { λ r. ⌜ Refuses {B = List ℕ × List ℕ} (editRows n block (now (bits .entry)) (now (parity .entry)) (now (capture .entry)) (now (list .entry)))
+        (now (capture .entry), now (list .entry)) r (now (capture .exit), now (list .exit)) ⌝ }
 {
     capture::edit(n, block, bits, parity, capture, list)
 }
@@ -52,10 +53,8 @@ pub fn code_damage_read(
     back: &mut [u8],
     parity_back: &mut [u8],
 ) -> Answer
-    ensures {
-        λ r. ⌜ Demand2 n m0 (now (info .entry)) (now (parity .entry)) (now (flips .entry)) (now (capture .entry)) (now (back .entry))
-            (now («parity_back» .entry)) r (now (back .exit)) (now («parity_back» .exit)) ⌝
-    }
+    ensures { λ r. ⌜ Demand2 n m0 (now (info .entry)) (now (parity .entry)) (now (flips .entry)) (now (capture .entry)) (now (back .entry))
+        (now («parity_back» .entry)) r (now (back .exit)) (now («parity_back» .exit)) ⌝ }
 {
     let coded = capture::code(n, m0, info, parity, capture);
     if coded.number != 0 {
@@ -107,10 +106,8 @@ pub fn code_edit(
     capture: &mut [u8],
     list: &mut [u64],
 ) -> Answer
-    ensures {
-        λ r. ⌜ Demand3 n m0 block (now (info .entry)) (now (parity .entry)) (now (bits .entry)) (now («new_parity» .entry)) (now (capture .entry))
-            (now (list .entry)) r (now (capture .exit)) (now (list .exit)) ⌝
-    }
+    ensures { λ r. ⌜ Demand3 n m0 block (now (info .entry)) (now (parity .entry)) (now (bits .entry)) (now («new_parity» .entry)) (now (capture .entry))
+        (now (list .entry)) r (now (capture .exit)) (now (list .exit)) ⌝ }
 {
     let coded = capture::code(n, m0, info, parity, capture);
     if coded.number != 0 {
@@ -120,10 +117,15 @@ pub fn code_edit(
 }
 
 // Maps groups into a window and takes them out again.
-pub fn map_unmap(c: u64, f: u64, n: u64, groups: &[u8], window: &mut [u8], back: &mut [u8]) -> Answer
-    ensures {
-        λ r. ⌜ (r .number ≡ allDone → length (now (back .entry)) ≡ length (now (groups .entry)) → now (back .exit) ≡ now (groups .entry)) ⌝
-    }
+pub fn map_unmap(
+    c: u64,
+    f: u64,
+    n: u64,
+    groups: &[u8],
+    window: &mut [u8],
+    back: &mut [u8],
+) -> Answer
+    ensures { λ r. ⌜ (r .number ≡ allDone → length (now (back .entry)) ≡ length (now (groups .entry)) → now (back .exit) ≡ now (groups .entry)) ⌝ }
 {
     let mapped = gmp::map(c, f, n, groups, window);
     if mapped.number != 0 {

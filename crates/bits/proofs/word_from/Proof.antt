@@ -61,7 +61,7 @@ loop-again c =
     let a = c .before .before .before .before .before .before .args in
     let e = c .eight-of .ensures in
     filled-more (c .before .before .before .before .loop .inv) (c .before .before .before .loop-test .taken)
-        (e .is ∙ num-window-from 8 (now (a .s)) (a .i) (c .before .before .before .before .loop .k) _ _ (omega arith) (e .high) (e .low) (c .before .before .byte-at .ensures) (c .before .byte-at2 .ensures))
+    (e .is ∙ num-window-from 8 (now (a .s)) (a .i) (c .before .before .before .before .loop .k) _ _ (omega arith) (e .high) (e .low) (c .before .before .byte-at .ensures) (c .before .byte-at2 .ensures))
 
 returns : tie.Need-returns Inv-loop μ-loop
 returns c = search loops

@@ -32,8 +32,8 @@ same-length-3 c = search needs
 returns-2 : tie.Need-returns-2
 returns-2 c = λ input long e.
     let a = c .before .before .before .before .before .before .before .before .before .before .before .before .before .before .before .before .before .before .before .args in
-    edits-as-coded (a .n) (a .m0) (a .block) (now (a .info)) (now (a .parity)) (now (a .bits)) (now (a .«new_parity»)) _ (now (a .list))
-        (coded-now (a .n) (a .m0) (now (a .info)) (now (a .parity)) (now (a .capture)) input long (c .before .before .before .before .before .before .before .before .before .before .before .code .ensures) .capture) e (c .before .before .before .before .edit .ensures)
+    edits-as-coded (a .n) (a .m0) (a .block) (now (a .info)) (now (a .parity)) (now (a .bits)) (now (a .new-parity)) _ (now (a .list))
+    (coded-now (a .n) (a .m0) (now (a .info)) (now (a .parity)) (now (a .capture)) input long (c .before .before .before .before .before .before .before .before .before .before .before .code .ensures) .capture) e (c .before .before .before .before .edit .ensures)
 
 pub code-edit-spec : {M : Type 1} → statement M
 code-edit-spec =

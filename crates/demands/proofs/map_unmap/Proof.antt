@@ -32,7 +32,7 @@ returns-2 c = λ z l.
     let a = c .before .before .before .before .before .before .before .before .before .before .before .before .before .before .args in
     let given = c .before .before .before .before .before .before .before .before .before .before .before .before .before .shared-slice-known .given in
     round-trip (a .c) (a .f) (a .n) (now (a .groups)) (now (a .window)) (now (a .back)) (c .before .before .before .before .before .before .before .before .before .map .result) (c .before .before .unmap .result) _ _ (λ k. given k .fits)
-        (c .before .before .before .before .before .before .before .before .before .map .ensures) (c .before .before .before .before .before .if1 .left) l (c .before .before .unmap .ensures) .1
+    (c .before .before .before .before .before .before .before .before .before .map .ensures) (c .before .before .before .before .before .if1 .left) l (c .before .before .unmap .ensures) .1
 
 pub map-unmap-spec : {M : Type 1} → statement M
 map-unmap-spec =
