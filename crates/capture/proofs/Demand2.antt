@@ -126,8 +126,8 @@ module _ (N m0 : ℕ) (info par : List ℕ) (flips : Choice) where
   unfolding mbasDiffers
   no-6 t h =
       let e : num mbasBits (fecIn (repaired cap) t) mbasFrom ≡ mbasOf m0 t =
-          num-is mbasBits (fecIn (repaired cap) t) mbasFrom (mbasOf m0 t) (mbas-lt m0 t)
-          (λ j l. block-read t (mbasFrom + j) h (omega arith) ∙ fec-mbas m0 info par t j l) in
+      num-is mbasBits (fecIn (repaired cap) t) mbasFrom (mbasOf m0 t) (mbas-lt m0 t)
+      (λ j l. block-read t (mbasFrom + j) h (omega arith) ∙ fec-mbas m0 info par t j l) in
       ap not (eq-eqb (num mbasBits (fecIn (repaired cap) t) mbasFrom) (mbasOf m0 t) e)
 
   crc-small : (t : ℕ) → blockCrc info t < 2 ^ crcBits
@@ -142,16 +142,16 @@ module _ (N m0 : ℕ) (info par : List ℕ) (flips : Choice) where
   unfolding crcDiffers
   no-7 t h =
       let e : num crcBits (fecIn (repaired cap) t) infoBits ≡ blockCrc info t =
-          num-is crcBits (fecIn (repaired cap) t) infoBits (blockCrc info t) (crc-small t)
-          (λ j l. block-read t (infoBits + j) h (omega arith) ∙ fec-crc m0 info par t j l) in
+      num-is crcBits (fecIn (repaired cap) t) infoBits (blockCrc info t) (crc-small t)
+      (λ j l. block-read t (infoBits + j) h (omega arith) ∙ fec-crc m0 info par t j l) in
       ap not (eq-eqb (num crcBits (fecIn (repaired cap) t) infoBits) (crcOf infoBits (fecIn (repaired cap) t)) (e ∙ sym (crc-read t h)))
 
   no-8 : (f : ℕ) → f < N → padDiffers cap f ≡ false
   unfolding padDiffers
   no-8 f h =
       let e : num padBits (superIn (repaired cap) f) padFrom ≡ 0 =
-          num-zero padBits (superIn (repaired cap) f) padFrom
-          (λ j l. super-read N F (repaired cap) words-back bits f (padFrom + j) h (omega arith) ∙ super-pad F f (padFrom + j) (omega arith)) in
+      num-zero padBits (superIn (repaired cap) f) padFrom
+      (λ j l. super-read N F (repaired cap) words-back bits f (padFrom + j) h (omega arith) ∙ super-pad F f (padFrom + j) (omega arith)) in
       ap not (eq-eqb (num padBits (superIn (repaired cap) f) padFrom) 0 e)
 
   -- the count is exact
