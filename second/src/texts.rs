@@ -228,16 +228,11 @@ fn reading(label: &str, n: u64, m0: u64, captured: &[u8], information: usize, pa
     let mut information = bytes_from_seed(INFORMATION_SEED, information);
     let mut parity = bytes_from_seed(PARITY_SEED, parity);
     let answer = capture::read(n, m0, captured, &mut information, &mut parity);
-    format!("{}: {}\n", label, shown(answer)) + &both_digests(label, &information, &parity)
+    both_digests(&format!("{}: {}", label, shown(answer)), &information, &parity)
 }
 
 fn both_digests(label: &str, information: &[u8], parity: &[u8]) -> String {
-    format!(
-        "{}: information {} parity {}\n",
-        label,
-        digest(information),
-        digest(parity)
-    )
+    format!("{} information {} parity {}\n", label, digest(information), digest(parity))
 }
 
 /// How each refusal is provoked:
@@ -261,9 +256,9 @@ pub fn readings() -> String {
         let first_pad = super_frame::PAD_START;
         let last_pad = super_frame::BITS - 1;
 
-        text += &both_digests(&format!("N {} coded from", n), &c.information, &c.parity);
+        text += &both_digests(&format!("N {} coded from:", n), &c.information, &c.parity);
         text += &both_digests(
-            &format!("N {} buffers before", n),
+            &format!("N {} buffers before:", n),
             &bytes_from_seed(INFORMATION_SEED, information),
             &bytes_from_seed(PARITY_SEED, parity),
         );
@@ -271,8 +266,6 @@ pub fn readings() -> String {
         let mut say = |label: String, m0: u64, captured: &[u8]| {
             text += &reading(&format!("N {} {}", n, label), n, m0, captured, information, parity);
         };
-
-        say("undamaged".to_string(), c.m0, &c.capture);
 
         let mut d = c.capture.clone();
         for w in 0..=last_word {
@@ -289,22 +282,22 @@ pub fn readings() -> String {
         for w in [0, last_word] {
             let mut d = c.capture.clone();
             put_nonzero(&mut d, w);
-            say(format!("filler word {} not zero", w), c.m0, &d);
+            say(format!("filler not zero in word {}", w), c.m0, &d);
         }
         for (t, bit) in [(0, lowest_mbas), (last_block, highest_mbas)] {
             let mut d = c.capture.clone();
             turn_in_block(&mut d, t, bit);
-            say(format!("bit {} of block {} turned", bit, t), c.m0, &d);
+            say(format!("turned bit {} of block {}", bit, t), c.m0, &d);
         }
         for (t, bit) in [(0, 0), (last_block, last_crc)] {
             let mut d = c.capture.clone();
             turn_in_block(&mut d, t, bit);
-            say(format!("bit {} of block {} turned", bit, t), c.m0, &d);
+            say(format!("turned bit {} of block {}", bit, t), c.m0, &d);
         }
         for (f, bit) in [(0, first_pad), (last_frame, last_pad)] {
             let mut d = c.capture.clone();
             turn(&mut d, f, bit);
-            say(format!("bit {} of super frame {} turned", bit, f), c.m0, &d);
+            say(format!("turned bit {} of super frame {}", bit, f), c.m0, &d);
         }
 
         // Two numbers apply: the smaller one wins, wherever it stands.
@@ -345,6 +338,7 @@ pub fn readings() -> String {
         turn_in_block(&mut d, last_block, fec::BLOCK_BITS - 1);
         say("last parity bit turned".to_string(), c.m0, &d);
 
+        say("undamaged".to_string(), c.m0, &c.capture);
         say("m0 one more".to_string(), c.m0 + 1, &c.capture);
     }
 
@@ -363,7 +357,7 @@ pub fn readings() -> String {
     ];
     for (label, n, m0, captured, information, parity) in calls {
         text += &both_digests(
-            &format!("{} before", label),
+            &format!("{} before:", label),
             &bytes_from_seed(INFORMATION_SEED, information),
             &bytes_from_seed(PARITY_SEED, parity),
         );
@@ -422,12 +416,12 @@ pub fn never_coded(n: u64, seed: u64) -> Vec<u8> {
     captured
 }
 
-/// Two lines for an edit with a list of the given length: the answer, then the digests.
+/// One line for an edit with a list of the given length: the answer, then the digests.
 fn edited(label: &str, n: u64, block: u64, client: &[u8], parity: &[u8], captured: &mut [u8], list: usize) -> String {
     let mut list = list_before(list);
     let answer = capture::edit(n, block, client, parity, captured, &mut list);
     let digests = format!("capture {} list {}", digest(captured), digest_of_numbers(&list));
-    format!("{}: {}\n{}: {}\n", label, shown(answer), label, digests)
+    format!("{}: {} {}\n", label, shown(answer), digests)
 }
 
 pub fn edits() -> String {
@@ -445,6 +439,17 @@ pub fn edits() -> String {
     ];
     for (c, blocks) in granted {
         text += &format!("N {} coded: {}\n", c.n, digest(&c.capture));
+        // 1: the first block past the end, edited as block 6.
+        let past = 4_760 * c.n;
+        text += &edited(
+            &format!("N {} block {}", c.n, past),
+            c.n,
+            past,
+            &edit_client(6),
+            &edit_parity(6),
+            &mut c.capture.clone(),
+            full,
+        );
         for block in blocks {
             let label = format!("N {} block {}", c.n, block);
             let mut captured = c.capture.clone();
@@ -480,12 +485,8 @@ pub fn edits() -> String {
     // 1
     let client = edit_client(6);
     let parity = edit_parity(6);
-    for (n, block) in [(1, 4_760), (8, 38_080), (0, 0), (9, 0), (1, u64::MAX)] {
-        let mut captured = if n == 8 {
-            eight.capture.clone()
-        } else {
-            one.capture.clone()
-        };
+    for (n, block) in [(0, 0), (9, 0), (1, u64::MAX)] {
+        let mut captured = one.capture.clone();
         text += &edited(
             &format!("N {} block {}", n, block),
             n,
