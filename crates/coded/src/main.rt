@@ -98,14 +98,7 @@ fn long_parity() {
     let info = [0u8; 152915];
     let parity = [0u8; 10241];
     let mut capture = [0u8; 183296];
-    refused(
-        b"parity one byte long",
-        1,
-        7,
-        &info,
-        &parity,
-        &mut capture,
-    );
+    refused(b"parity one byte long", 1, 7, &info, &parity, &mut capture);
 }
 
 fn short_capture() {

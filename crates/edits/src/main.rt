@@ -153,7 +153,10 @@ fn reads_back(
     parity_back: &mut [u8],
 ) -> bool {
     let r = reader::read(n, first_number(n), capture, info_back, parity_back);
-    r.number == 0 && r.count == 0 && check::same(info, info_back) && check::same(parity, parity_back)
+    r.number == 0
+        && r.count == 0
+        && check::same(info, info_back)
+        && check::same(parity, parity_back)
 }
 
 // A granted edit, compared with coding afresh and read back.
@@ -278,16 +281,7 @@ fn short_list(name: &[u8], spare: u8, capture: &mut [u8]) {
     let mut bits = [0u8; 33];
     let mut parity = [0u8; 2048];
     let mut list = [0u64; 144];
-    edited(
-        1,
-        6,
-        6,
-        spare,
-        &mut bits,
-        &mut parity,
-        capture,
-        &mut list,
-    );
+    edited(1, 6, 6, spare, &mut bits, &mut parity, capture, &mut list);
 }
 
 fn long_list(capture: &mut [u8]) {

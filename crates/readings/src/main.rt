@@ -91,14 +91,7 @@ fn damaged(
     turn_both(w, v, x, u, capture);
 }
 
-fn once(
-    n: u64,
-    w: usize,
-    v: [u8; 16],
-    capture: &mut [u8],
-    info: &mut [u8],
-    parity: &mut [u8],
-) {
+fn once(n: u64, w: usize, v: [u8; 16], capture: &mut [u8], info: &mut [u8], parity: &mut [u8]) {
     damaged(n, w, v, w, [0u8; 16], capture, info, parity);
 }
 
@@ -127,7 +120,7 @@ fn undamaged(n: u64, capture: &[u8], info: &mut [u8], parity: &mut [u8]) {
     name(n, b" undamaged");
     reading(n, first_number(n), capture, info, parity);
     name(n, b" m0 one more");
-    reading(n, first_number(n) + 1, capture, info, parity);
+    reading(n, 7 * (n % 9) + 1, capture, info, parity);
 }
 
 // One bit turned in each word.

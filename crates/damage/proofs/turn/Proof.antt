@@ -28,7 +28,7 @@ loop-less c = omega arith
 
 loop-again : tie.Need-loop-again Inv-loop μ-loop
 unfolding turnedSymbol
-loop-again c = 
+loop-again c =
     let i = c .before .before .before .before .before .loop .inv in
     let e = c .before .before .turn-symbol .ensures in
     (folded-more (i .0) e, rw e (simp length-set (i .1)), omega arith)

@@ -53,7 +53,7 @@ same-length c = search needs
 
 returns-3 : tie.Need-returns-3
 unfolding turnedSymbol symbolPlace
-returns-3 c = 
+returns-3 c =
     let a = c .before .before .before .args in rw (add-assoc (128 * (a .w / 8)) (8 * a .k) (a .w % 8))
 
 pub turn-symbol-spec : {M : Type 1} → statement M
