@@ -5,13 +5,6 @@ use lib.ListN.{length}
 use borrow.Author.Needs.{needs}
 use Rattle.edits.proofs.fill_words.Statement.{statement}
 use Rattle.edits.proofs.fill_words.Tie as tie
-use Rattle.edits.proofs.fill_words.Reads as reads
-use Rattle.edits.proofs.fill_words.Lts as lts
-use Rattle.bits.proofs.word_from.Reads as word-from-reads
-use Rattle.damage.proofs.turn.Reads as turn-reads
-use Rattle.hamming.proofs.encode_by.Reads as encode-by-reads
-use Rattle.made.proofs.fill.Reads as fill-reads
-use Rattle.made.proofs.start.Reads as start-reads
 
 abbrev Inv-loop : tie.InvT-loop
 Inv-loop seed t tails e₀ capture₀ g₀ w₀ e capture g w = (w ≤ 11456) × (length capture ≡ length capture₀) × (length e ≡ length e₀)

@@ -5,10 +5,6 @@ use lib.ListN.{length}
 use borrow.Author.Needs.{needs}
 use Rattle.edits.proofs.put_client.Statement.{statement}
 use Rattle.edits.proofs.put_client.Tie as tie
-use Rattle.edits.proofs.put_client.Reads as reads
-use Rattle.edits.proofs.put_client.Lts as lts
-use Rattle.bits.proofs.bit_at.Reads as bit-at-reads
-use Rattle.edits.proofs.put_bit.Reads as put-bit-reads
 
 abbrev Inv-loop : tie.InvT-loop
 Inv-loop info₀ block client i₀ info i = (i ≤ 257) × (length info ≡ length info₀)

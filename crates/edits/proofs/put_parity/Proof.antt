@@ -5,10 +5,6 @@ use lib.ListN.{length}
 use borrow.Author.Needs.{needs}
 use Rattle.edits.proofs.put_parity.Statement.{statement}
 use Rattle.edits.proofs.put_parity.Tie as tie
-use Rattle.edits.proofs.put_parity.Reads as reads
-use Rattle.edits.proofs.put_parity.Lts as lts
-use Rattle.bits.proofs.byte_at.Reads as byte-at-reads
-use Rattle.edits.proofs.put_byte.Reads as put-byte-reads
 
 abbrev Inv-loop : tie.InvT-loop
 Inv-loop parity₀ t new k₀ parity k = (k ≤ 2048) × (length parity ≡ length parity₀)

@@ -5,10 +5,6 @@ use lib.ListN.{length}
 use borrow.Author.Needs.{needs}
 use Rattle.readings.proofs.turn_in_all.Statement.{statement}
 use Rattle.readings.proofs.turn_in_all.Tie as tie
-use Rattle.readings.proofs.turn_in_all.Reads as reads
-use Rattle.readings.proofs.turn_in_all.Lts as lts
-use Rattle.damage.proofs.turn.Reads as turn-reads
-use Rattle.readings.proofs.bit.Reads as bit-reads
 
 abbrev Inv-loop : tie.InvT-loop
 Inv-loop capture₀ w₀ w-end capture w = length capture ≡ length capture₀
