@@ -11,12 +11,16 @@ add-upto c = search needs
 
 mul-upto : tie.Need-mul-upto
 mul-upto c =
-    let h : (c .args .f % 20000 + c .args .n % 20000) * (c .args .c % 20000) ≤ 39998 * 19999 = mul-le-mul (omega arith) (omega arith) in
+    let p : c .args .f % 20000 + c .args .n % 20000 ≤ 39998 = omega arith in
+    let q : c .args .c % 20000 ≤ 19999 = omega arith in
+    let h : (c .args .f % 20000 + c .args .n % 20000) * (c .args .c % 20000) ≤ 39998 * 19999 = mul-le-mul p q in
     record { fits = omega arith }
 
 mul-before : tie.Need-mul-before
 mul-before c =
-    let h : c .args .f % 20000 * (c .args .c % 20000) ≤ 19999 * 19999 = mul-le-mul (omega arith) (omega arith) in
+    let p : c .args .f % 20000 ≤ 19999 = omega arith in
+    let q : c .args .c % 20000 ≤ 19999 = omega arith in
+    let h : c .args .f % 20000 * (c .args .c % 20000) ≤ 19999 * 19999 = mul-le-mul p q in
     record { fits = omega arith }
 
 returns : tie.Need-returns
