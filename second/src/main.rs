@@ -16,8 +16,8 @@ mod texts;
 use std::io::{Read, Write};
 
 const USAGE: &str = "usage: second NAME\n\
-    NAME is one of: gmp_runs [LINE], table7, hamming_words, coded, readings, edits, windows, numbers,\n\
-    places, parts, selftest. gmp_runs without LINE reads standard input.\n";
+    NAME is one of: gmp_runs [LINE], table7, gmp_lines, hamming_words, coded, readings, edits, windows,\n\
+    places, parts, edges, vectors, selftest. gmp_runs without LINE reads standard input.\n";
 
 fn main() {
     let arguments: Vec<std::ffi::OsString> = std::env::args_os().collect();
@@ -40,13 +40,15 @@ fn main() {
         }
         "table7" => texts::table7(),
         "hamming_words" => texts::hamming_words(),
+        "gmp_lines" => texts::gmp_lines(),
         "coded" => texts::coded(),
         "readings" => texts::readings(),
         "edits" => texts::edits(),
         "windows" => texts::windows(),
-        "numbers" => texts::numbers(),
         "places" => texts::places(),
         "parts" => texts::parts(),
+        "edges" => texts::edges(),
+        "vectors" => texts::vectors(),
         "selftest" => selftest::run_all(),
         _ => {
             eprint!("{}", USAGE);

@@ -63,41 +63,50 @@ pub fn table7() -> String {
 
 // ---------------------------------------------------------------- hamming_words
 
+/// An element whose first n bytes are x and whose others are y, without the bits past 119.
+fn striped_element(x: u8, y: u8, n: usize) -> Vec<bool> {
+    let mut bytes = [y; 16];
+    for byte in bytes.iter_mut().take(n) {
+        *byte = x;
+    }
+    bits_of_bytes(&bytes)[0..super_frame::ELEMENT_BITS].to_vec()
+}
+
+/// A level with its sign.
+fn signed(level: i32) -> String {
+    format!("{:+}", level)
+}
+
+/// The code words of the elements with bit 0, 2 or 4 only and of all ones; Table 12; and for these words, the word
+/// of zeros and two words more how many single flips are repaired and how many double flips are beyond repair.
 pub fn hamming_words() -> String {
     let matrix = Matrix::new();
+    let elements = [
+        striped_element(0x80, 0, 1),
+        striped_element(0x20, 0, 1),
+        striped_element(0x08, 0, 1),
+        striped_element(0xff, 0xff, 0),
+        striped_element(0, 0, 0),
+        striped_element(165, 60, 7),
+        striped_element(1, 254, 11),
+    ];
     let mut text = String::new();
-    for bit in [0, 2, 4] {
-        let mut element = vec![false; super_frame::ELEMENT_BITS];
-        element[bit] = true;
-        text += &format!("bit {}: {}\n", bit, word_in_hex(&matrix.encode(&element)));
+    for element in &elements[0..4] {
+        text += &format!("{}\n", word_in_hex(&matrix.encode(element)));
     }
-    let ones = vec![true; super_frame::ELEMENT_BITS];
-    text += &format!("all ones: {}\n", word_in_hex(&matrix.encode(&ones)));
 
-    // Document 001, Table 12, in the table's order: the four bits of one polarization.
+    // Document 001, Table 12, in the table's order: four bits, and their levels in both polarizations.
     for row in 0..16u8 {
-        let levels = symbols::levels(row * 16);
-        text += &format!(
-            "{}{}{}{}: I {} Q {}\n",
-            row / 8 % 2,
-            row / 4 % 2,
-            row / 2 % 2,
-            row % 2,
-            levels[0],
-            levels[1]
-        );
-    }
-    // Both polarizations: for bytes 0 to 255 the levels X-I, X-Q, Y-I, Y-Q, each plus three, one byte each.
-    let mut all_levels = Vec::new();
-    for byte in 0..=255u8 {
-        for level in symbols::levels(byte) {
-            all_levels.push((level + 3) as u8);
+        let levels = symbols::levels(row * 16 + row);
+        text += &format!("{:04b}", row);
+        for level in levels {
+            text += &format!(" {}", signed(level.into()));
         }
+        text += "\n";
     }
-    text += &format!("levels plus 3 of bytes 0 to 255: digest {}\n", digest(&all_levels));
 
-    for seed in 1..=5 {
-        let word = matrix.encode(&element_from_seed(seed));
+    for element in &elements {
+        let word = matrix.encode(element);
         let mut single = 0;
         let mut double = 0;
         for first in 0..WORD_BITS {
@@ -114,11 +123,157 @@ pub fn hamming_words() -> String {
                 }
             }
         }
-        text += &format!("seed {}: {}\n", seed, word_in_hex(&word));
-        text += &format!("seed {}: single {} of 128 repaired\n", seed, single);
-        text += &format!("seed {}: double {} of 8128 beyond repair\n", seed, double);
+        text += &format!(
+            "repaired {} of 128, beyond repair {} of 8128: {}\n",
+            single,
+            double,
+            word_in_hex(&word)
+        );
     }
     text
+}
+
+// ---------------------------------------------------------------- gmp_lines
+
+/// The number and the count of a call, behind its name.
+fn brief(name: &str, answer: Answer) -> String {
+    format!("{} {} {}\n", name, answer.number, answer.count)
+}
+
+/// The count on the first line of an input, or a refusal: the run program lists a count or writes `refused 1`.
+fn count_of_line(input: &[u8]) -> Answer {
+    let text = gmp::run_program(input);
+    match text.lines().next().unwrap().strip_prefix("Cm ") {
+        Some(count) => Answer::done(count.parse().unwrap()),
+        None => Answer::refused(1, 0),
+    }
+}
+
+/// Bytes of no pattern that a slip would keep; the last one ends with four zero bits.
+fn sample(length: usize) -> Vec<u8> {
+    let mut bytes = Vec::new();
+    for k in 0..length {
+        bytes.push((k % 251 * 7 % 251) as u8);
+    }
+    if length > 0 {
+        bytes[length - 1] = ((length - 1) % 16 * 16) as u8;
+    }
+    bytes
+}
+
+fn sum(bytes: &[u8]) -> u64 {
+    let mut sum = 0;
+    for byte in bytes {
+        sum = (sum * 31 + u64::from(*byte)) % 1_000_003;
+    }
+    sum
+}
+
+/// A window mapped and unmapped, with sums of the window, of the groups that came back and of those given.
+fn window_lines(name: &str, c: u64, f: u64, n: u64, groups: usize, window: usize) -> String {
+    let given = sample(groups);
+    let mut mapped = vec![9u8; window];
+    let mut back = vec![7u8; groups];
+    let name = format!("window {}", name);
+    let mut text = brief(&name, gmp::map(c, f, n, &given, &mut mapped));
+    text += &brief(" unmap", gmp::unmap(c, f, n, &mapped, &mut back));
+    text + &format!(" sums {} {} {}\n", sum(&mapped), sum(&back), sum(&given))
+}
+
+pub fn gmp_lines() -> String {
+    let mut text = String::new();
+    let lines: [(&str, &[u8]); 12] = [
+        ("line empty", b""),
+        ("line empty, then 10216", b"\n10216\n"),
+        ("line 10220", b"10220\n"),
+        ("line 10221", b"10221\n"),
+        ("line 0", b"0\n"),
+        ("line 00010216", b"00010216\n"),
+        ("line 2^64", b"18446744073709551616\n"),
+        ("line 10216 CR", b"10216\r\n"),
+        ("line letters", b"ten\n"),
+        ("line 10216 and no line feed", b"10216"),
+        ("line 10216, then letters", b"10216\nten\n"),
+        ("line 1 2", b"1 2\n"),
+    ];
+    for (name, input) in lines {
+        text += &brief(name, count_of_line(input));
+    }
+    // The same input in four parts makes no difference.
+    text += &brief("parts 00 102 16", count_of_line(b"000010216\n79\n"));
+
+    // Document 001, Table 7, upwards: the stuff runs of each count.
+    for c in 10_214..=gmp::PLACES {
+        text += &format!("Cm {} runs {} stuff", c, gmp::count_runs(c, 1).count);
+        let mut first = 1;
+        while first <= gmp::PLACES {
+            let (_, kind, last) = gmp::run_at(c, first);
+            if kind == Kind::Stuff {
+                text += &format!(" {}-{}", first, last);
+            }
+            first = last + 1;
+        }
+        text += "\n";
+    }
+
+    let most = u64::MAX;
+    let runs = [
+        ("0 1", 0, 1),
+        ("10220 10220", 10_220, 10_220),
+        ("10221 1", 10_221, 1),
+        ("10216 0", 10_216, 0),
+        ("10216 10220", 10_216, 10_220),
+        ("10216 10221", 10_216, 10_221),
+        ("5110 1", 5_110, 1),
+        ("1 1", 1, 1),
+        ("10217 3407", 10_217, 3_407),
+        ("2^64-1 2^64-1", most, most),
+    ];
+    for (name, c, j) in runs {
+        let (answer, kind, last) = gmp::run_at(c, j);
+        let kind = if kind == Kind::Data { 1 } else { 0 };
+        text += &format!("run {} {} {} {}", name, answer.number, kind, last);
+        text += &brief(" runs", gmp::count_runs(c, j));
+    }
+
+    let windows = [
+        ("10220 10219 2", 10_220, 10_219, 2, 257, 257),
+        ("0 1 2", 0, 1, 2, 0, 257),
+        ("10217 1 2", 10_217, 1, 2, 129, 257),
+        ("10217 3407 4", 10_217, 3_407, 4, 386, 514),
+        ("5110 1 8", 5_110, 1, 8, 514, 1_028),
+        ("10216 2555 2", 10_216, 2_555, 2, 129, 257),
+        ("10221 1 2", 10_221, 1, 2, 257, 257),
+        ("10220 10219 4", 10_220, 10_219, 4, 514, 514),
+        ("10220 0 2", 10_220, 0, 2, 257, 257),
+        ("10220 2 2", 10_220, 2, 2, 257, 257),
+        ("10220 1 3", 10_220, 1, 3, 386, 386),
+        ("10220 1 0", 10_220, 1, 0, 0, 0),
+        ("2^64-1 1 2", most, 1, 2, 257, 257),
+        ("10220 2^64-1 2", 10_220, most, 2, 257, 257),
+        ("10220 3 2^64-2", 10_220, 3, most - 1, 257, 257),
+        ("10220 1 2, groups short", 10_220, 1, 2, 256, 257),
+        ("10220 1 2, window long", 10_220, 1, 2, 257, 258),
+        ("10221 1 2, both wrong", 10_221, 1, 2, 1, 1),
+    ];
+    for (name, c, f, n, groups, window) in windows {
+        text += &window_lines(name, c, f, n, groups, window);
+    }
+
+    // Spare bits that are set, and stuff that is not zero.
+    let mut given = vec![255u8; 129];
+    let mut mapped = vec![0u8; 257];
+    text += &brief("spare bits", gmp::map(10_217, 1, 2, &given, &mut mapped));
+    text += &brief(
+        "spare bits, window short",
+        gmp::map(10_217, 1, 2, &given, &mut mapped[0..256]),
+    );
+    given[128] = 240;
+    text += &brief("no spare bits", gmp::map(10_217, 1, 2, &given, &mut mapped));
+    mapped[0] = 255;
+    let mut back = vec![0u8; 129];
+    text += &brief("stuff not zero", gmp::unmap(10_217, 1, 2, &mapped, &mut back));
+    text + &format!(" sums {} {}\n", sum(&given), sum(&back))
 }
 
 // ---------------------------------------------------------------- coded
@@ -228,16 +383,11 @@ fn reading(label: &str, n: u64, m0: u64, captured: &[u8], information: usize, pa
     let mut information = bytes_from_seed(INFORMATION_SEED, information);
     let mut parity = bytes_from_seed(PARITY_SEED, parity);
     let answer = capture::read(n, m0, captured, &mut information, &mut parity);
-    format!("{}: {}\n", label, shown(answer)) + &both_digests(label, &information, &parity)
+    both_digests(&format!("{}: {}", label, shown(answer)), &information, &parity)
 }
 
 fn both_digests(label: &str, information: &[u8], parity: &[u8]) -> String {
-    format!(
-        "{}: information {} parity {}\n",
-        label,
-        digest(information),
-        digest(parity)
-    )
+    format!("{} information {} parity {}\n", label, digest(information), digest(parity))
 }
 
 /// How each refusal is provoked:
@@ -261,9 +411,9 @@ pub fn readings() -> String {
         let first_pad = super_frame::PAD_START;
         let last_pad = super_frame::BITS - 1;
 
-        text += &both_digests(&format!("N {} coded from", n), &c.information, &c.parity);
+        text += &both_digests(&format!("N {} coded from:", n), &c.information, &c.parity);
         text += &both_digests(
-            &format!("N {} buffers before", n),
+            &format!("N {} buffers before:", n),
             &bytes_from_seed(INFORMATION_SEED, information),
             &bytes_from_seed(PARITY_SEED, parity),
         );
@@ -271,8 +421,6 @@ pub fn readings() -> String {
         let mut say = |label: String, m0: u64, captured: &[u8]| {
             text += &reading(&format!("N {} {}", n, label), n, m0, captured, information, parity);
         };
-
-        say("undamaged".to_string(), c.m0, &c.capture);
 
         let mut d = c.capture.clone();
         for w in 0..=last_word {
@@ -289,22 +437,22 @@ pub fn readings() -> String {
         for w in [0, last_word] {
             let mut d = c.capture.clone();
             put_nonzero(&mut d, w);
-            say(format!("filler word {} not zero", w), c.m0, &d);
+            say(format!("filler not zero in word {}", w), c.m0, &d);
         }
         for (t, bit) in [(0, lowest_mbas), (last_block, highest_mbas)] {
             let mut d = c.capture.clone();
             turn_in_block(&mut d, t, bit);
-            say(format!("bit {} of block {} turned", bit, t), c.m0, &d);
+            say(format!("turned bit {} of block {}", bit, t), c.m0, &d);
         }
         for (t, bit) in [(0, 0), (last_block, last_crc)] {
             let mut d = c.capture.clone();
             turn_in_block(&mut d, t, bit);
-            say(format!("bit {} of block {} turned", bit, t), c.m0, &d);
+            say(format!("turned bit {} of block {}", bit, t), c.m0, &d);
         }
         for (f, bit) in [(0, first_pad), (last_frame, last_pad)] {
             let mut d = c.capture.clone();
             turn(&mut d, f, bit);
-            say(format!("bit {} of super frame {} turned", bit, f), c.m0, &d);
+            say(format!("turned bit {} of super frame {}", bit, f), c.m0, &d);
         }
 
         // Two numbers apply: the smaller one wins, wherever it stands.
@@ -345,6 +493,7 @@ pub fn readings() -> String {
         turn_in_block(&mut d, last_block, fec::BLOCK_BITS - 1);
         say("last parity bit turned".to_string(), c.m0, &d);
 
+        say("undamaged".to_string(), c.m0, &c.capture);
         say("m0 one more".to_string(), c.m0 + 1, &c.capture);
     }
 
@@ -363,7 +512,7 @@ pub fn readings() -> String {
     ];
     for (label, n, m0, captured, information, parity) in calls {
         text += &both_digests(
-            &format!("{} before", label),
+            &format!("{} before:", label),
             &bytes_from_seed(INFORMATION_SEED, information),
             &bytes_from_seed(PARITY_SEED, parity),
         );
@@ -422,12 +571,12 @@ pub fn never_coded(n: u64, seed: u64) -> Vec<u8> {
     captured
 }
 
-/// Two lines for an edit with a list of the given length: the answer, then the digests.
+/// One line for an edit with a list of the given length: the answer, then the digests.
 fn edited(label: &str, n: u64, block: u64, client: &[u8], parity: &[u8], captured: &mut [u8], list: usize) -> String {
     let mut list = list_before(list);
     let answer = capture::edit(n, block, client, parity, captured, &mut list);
     let digests = format!("capture {} list {}", digest(captured), digest_of_numbers(&list));
-    format!("{}: {}\n{}: {}\n", label, shown(answer), label, digests)
+    format!("{}: {} {}\n", label, shown(answer), digests)
 }
 
 pub fn edits() -> String {
@@ -445,6 +594,17 @@ pub fn edits() -> String {
     ];
     for (c, blocks) in granted {
         text += &format!("N {} coded: {}\n", c.n, digest(&c.capture));
+        // 1: the first block past the end, edited as block 6.
+        let past = 4_760 * c.n;
+        text += &edited(
+            &format!("N {} block {}", c.n, past),
+            c.n,
+            past,
+            &edit_client(6),
+            &edit_parity(6),
+            &mut c.capture.clone(),
+            full,
+        );
         for block in blocks {
             let label = format!("N {} block {}", c.n, block);
             let mut captured = c.capture.clone();
@@ -480,12 +640,8 @@ pub fn edits() -> String {
     // 1
     let client = edit_client(6);
     let parity = edit_parity(6);
-    for (n, block) in [(1, 4_760), (8, 38_080), (0, 0), (9, 0), (1, u64::MAX)] {
-        let mut captured = if n == 8 {
-            eight.capture.clone()
-        } else {
-            one.capture.clone()
-        };
+    for (n, block) in [(0, 0), (9, 0), (1, u64::MAX)] {
+        let mut captured = one.capture.clone();
         text += &edited(
             &format!("N {} block {}", n, block),
             n,
@@ -709,49 +865,13 @@ pub fn windows() -> String {
     text
 }
 
-// ---------------------------------------------------------------- numbers
+// ---------------------------------------------------------------- kinds
 
 fn kind_name(kind: Kind) -> &'static str {
     match kind {
         Kind::Data => "data",
         Kind::Stuff => "stuff",
     }
-}
-
-pub fn numbers() -> String {
-    let mut text = String::new();
-    let nine = bits_of_bytes(b"123456789");
-    text += &format!("CRC of 123456789: {}\n", hex(number_of_bits(&fec::crc(&nine))));
-    let zeros = bits_of_bytes(&vec![0u8; fec::INFORMATION_BYTES]);
-    text += &format!("CRC of 30583 zero bytes: {}\n", hex(number_of_bits(&fec::crc(&zeros))));
-    let scrambler = super_frame::scrambler(super_frame::BITS);
-    text += &format!("scrambler bits 0 to 23: {}\n", hex(number_of_bits(&scrambler[0..24])));
-    // The pad is zero before scrambling, so that the scrambled pad is the scrambler itself.
-    let pad = super_frame::PAD_START;
-    text += &format!(
-        "scrambled pad bits 0 to 31: {}\n",
-        hex(number_of_bits(&scrambler[pad..pad + 32]))
-    );
-
-    // The starred cases of document 01, section "Both sides of each edge".
-    for (c, j) in [
-        (0, 1),
-        (10_220, 10_220),
-        (10_216, 1),
-        (10_216, 2),
-        (10_216, 2_556),
-        (10_217, 3_407),
-        (10_217, 3_408),
-    ] {
-        text += &format!("C {} place {}: {}\n", c, j, kind_name(gmp::kind(c, j)));
-    }
-    for e in [0, 15, 16, 10_976] {
-        text += &format!("element {}: word {}\n", e, interleaver::slot_of_element(e));
-    }
-    text += &format!("word 9 symbol 2: byte {}\n", symbols::byte_place(9, 2));
-    let zero_word = Matrix::new().encode(&vec![false; super_frame::ELEMENT_BITS]);
-    text += &format!("element of zeros: {}\n", word_in_hex(&zero_word));
-    text
 }
 
 // ---------------------------------------------------------------- places
@@ -847,4 +967,127 @@ fn part_line(label: &str, n: u64, t: u64, information: &[u8]) -> String {
         part.len(),
         digest(part)
     )
+}
+
+// ---------------------------------------------------------------- edges
+
+/// The published values and the starred cases of document 01, section "Both sides of each edge".
+/// The other cases of that section stand in the texts of gmp_lines, coded, readings and edits.
+pub fn edges() -> String {
+    let mut text = String::new();
+    let nine = bits_of_bytes(b"123456789");
+    text += &format!("CRC of 123456789: {}\n", hex(number_of_bits(&fec::crc(&nine))));
+    let zeros = bits_of_bytes(&vec![0u8; fec::INFORMATION_BYTES]);
+    text += &format!("CRC of 30583 zero bytes: {}\n", hex(number_of_bits(&fec::crc(&zeros))));
+    let scrambler = super_frame::scrambler(super_frame::BITS);
+    text += &format!("scrambler bits 0 to 31: {}\n", hex(number_of_bits(&scrambler[0..32])));
+    let pad = super_frame::PAD_START;
+    text += &format!(
+        "scrambled pad bits 0 to 31: {}\n",
+        hex(number_of_bits(&scrambler[pad..pad + 32]))
+    );
+    for (c, j) in [
+        (0, 1),
+        (10_220, 10_220),
+        (10_216, 1),
+        (10_216, 2),
+        (10_216, 2_556),
+        (10_217, 3_407),
+        (10_217, 3_408),
+    ] {
+        text += &format!("C {} place {}: {}\n", c, j, kind_name(gmp::kind(c, j)));
+    }
+    let slots = interleaver::slots(2);
+    for w in [480, 15, 496, 11_456] {
+        text += &format!("word {}: element {}\n", w, slots[w].unwrap());
+    }
+    text += &format!("word 9 symbol 2: byte {}\n", symbols::byte_place(9, 2));
+    text
+}
+
+// ---------------------------------------------------------------- vectors
+
+/// A capture of n super frames from one seed: coded, edited, damaged, read, and edited once more.
+/// One generator gives information, parity, the two block numbers, the client block and its parity, and then for
+/// each word whether one of its bits is turned, and which.
+fn vector(n: u64, seed: u64, m0: u64) -> String {
+    let mut generator = Generator::new(seed);
+    let information = generator.bytes(capture::information_length(n));
+    let parity = generator.bytes(capture::parity_length(n));
+    let mut captured = vec![0u8; capture::capture_length(n)];
+    let answer = capture::code(n, m0, &information, &parity, &mut captured);
+    let mut text = format!("N {} seed {} m0 {}: {} capture {}\n", n, seed, m0, shown(answer), digest(&captured));
+
+    let first = generator.below(4_760 * n);
+    let second = generator.below(4_760 * n);
+    let mut client = generator.bytes(33);
+    client[32] &= 0x80;
+    let new_parity = generator.bytes(fec::PARITY_BYTES);
+    text += &vector_edit(n, first, &client, &new_parity, &mut captured);
+    for w in 0..interleaver::words(n as usize) {
+        let turned = generator.below(3) == 0;
+        let bit = generator.below(128) as usize;
+        if turned {
+            flip(&mut captured, w, bit);
+        }
+    }
+    text += &reading(
+        " damaged",
+        n,
+        m0,
+        &captured,
+        capture::information_length(n),
+        capture::parity_length(n),
+    );
+    text + &vector_edit(n, second, &client, &new_parity, &mut captured)
+}
+
+fn vector_edit(n: u64, block: u64, client: &[u8], parity: &[u8], captured: &mut [u8]) -> String {
+    edited(
+        &format!(" block {}", block),
+        n,
+        block,
+        client,
+        parity,
+        captured,
+        capture::LIST_LENGTH,
+    )
+}
+
+/// A window from one seed: the generator gives C, f, n and the groups.
+fn vector_window(seed: u64) -> String {
+    let mut generator = Generator::new(seed);
+    let c = generator.below(gmp::PLACES + 1);
+    let f = 2 * generator.below(gmp::PLACES / 2) + 1;
+    let left = (gmp::PLACES + 1 - f) / 2;
+    let n = 2 + 2 * generator.below(if left < 40 { left } else { 40 });
+    let d = gmp::data_places(c, f, n);
+    let mut groups = generator.bytes(gmp::groups_length(d) as usize);
+    if d % 2 == 1 {
+        let last = groups.len() - 1;
+        groups[last] &= 0xf0;
+    }
+    let mut window = generator.bytes(gmp::window_length(n) as usize);
+    let answer = gmp::map(c, f, n, &groups, &mut window);
+    let mut text = format!("seed {} C {} f {} n {}: {} window {}", seed, c, f, n, shown(answer), digest(&window));
+    let given = digest(&groups);
+    let answer = gmp::unmap(c, f, n, &window, &mut groups);
+    text += &format!(" unmap {} groups {} given {}\n", shown(answer), digest(&groups), given);
+    text
+}
+
+/// Seeds 1,001 to 1,008: N from 1 to 8, m0 0 and 63 in turn. Seeds 1,101 to 1,108: N = 1, m0 9 apart.
+/// Seeds 3,001 to 3,040: windows.
+pub fn vectors() -> String {
+    let mut text = String::new();
+    for n in 1..=8 {
+        text += &vector(n, 1_000 + n, if n % 2 == 1 { 0 } else { 63 });
+    }
+    for k in 0..8 {
+        text += &vector(1, 1_101 + k, 9 * k);
+    }
+    for seed in 3_001..=3_040 {
+        text += &vector_window(seed);
+    }
+    text
 }

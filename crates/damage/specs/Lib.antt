@@ -1,0 +1,2 @@
+-- What the contracts of `damage` are stated in.
+pub mod Turned

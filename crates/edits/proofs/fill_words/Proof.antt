@@ -1,0 +1,68 @@
+-- `edits::fill_words` is safe and ends. Assumes nothing.
+use Prim.Native.Nat.{_-_, _≤_}
+use mathlib.Core.Path.{_≡_}
+use lib.ListN.{length}
+use borrow.Author.Needs.{needs}
+use Rattle.edits.proofs.fill_words.Statement.{statement}
+use Rattle.edits.proofs.fill_words.Tie as tie
+
+abbrev Inv-loop : tie.InvT-loop
+Inv-loop seed t tails e₀ capture₀ g₀ w₀ e capture g w = (w ≤ 11456) × (length capture ≡ length capture₀) × (length e ≡ length e₀)
+
+abbrev μ-loop : tie.MeasureT-loop
+μ-loop seed t tails e₀ capture₀ g₀ w₀ e capture g w = 11456 - w
+
+start-requires : tie.Need-start-requires Inv-loop μ-loop
+start-requires c κs = search needs
+
+loop-holds : tie.Need-loop-holds Inv-loop μ-loop
+loop-holds c = search needs
+
+fill-requires : tie.Need-fill-requires Inv-loop μ-loop
+fill-requires c κs = search needs
+
+word-from-requires : tie.Need-word-from-requires Inv-loop μ-loop
+word-from-requires c κs = search needs
+
+encode-by-requires : tie.Need-encode-by-requires Inv-loop μ-loop
+encode-by-requires c κs = search needs
+
+turn-requires : tie.Need-turn-requires Inv-loop μ-loop
+turn-requires c κs = search needs
+
+add-w : tie.Need-add-w Inv-loop μ-loop
+add-w c = search needs
+
+loop-less : tie.Need-loop-less Inv-loop μ-loop
+loop-less c = search needs
+
+loop-again : tie.Need-loop-again Inv-loop μ-loop
+loop-again c = search needs
+
+same-length : tie.Need-same-length Inv-loop μ-loop
+same-length c = search needs
+
+same-length-2 : tie.Need-same-length-2 Inv-loop μ-loop
+same-length-2 c = search needs
+
+returns : tie.Need-returns Inv-loop μ-loop
+returns c = search needs
+
+pub fill-words-spec : {M : Type 1} → statement M
+fill-words-spec =
+    tie.close
+    (tie.spec
+    Inv-loop
+    μ-loop
+    start-requires
+    loop-holds
+    fill-requires
+    word-from-requires
+    encode-by-requires
+    turn-requires
+    add-w
+    loop-less
+    loop-again
+    same-length
+    same-length-2
+    returns)

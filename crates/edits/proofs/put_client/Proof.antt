@@ -1,0 +1,60 @@
+-- `edits::put_client` is safe and ends. Assumes nothing.
+use Prim.Native.Nat.{_-_, _≤_}
+use mathlib.Core.Path.{_≡_}
+use lib.ListN.{length}
+use borrow.Author.Needs.{needs}
+use Rattle.edits.proofs.put_client.Statement.{statement}
+use Rattle.edits.proofs.put_client.Tie as tie
+
+abbrev Inv-loop : tie.InvT-loop
+Inv-loop info₀ block client i₀ info i = (i ≤ 257) × (length info ≡ length info₀)
+
+abbrev μ-loop : tie.MeasureT-loop
+μ-loop info₀ block client i₀ info i = 257 - i
+
+loop-holds : tie.Need-loop-holds Inv-loop μ-loop
+loop-holds c = search needs
+
+mul-put-bit : tie.Need-mul-put-bit Inv-loop μ-loop
+mul-put-bit c = search needs
+
+add-put-bit : tie.Need-add-put-bit Inv-loop μ-loop
+add-put-bit c = search needs
+
+bit-at-requires : tie.Need-bit-at-requires Inv-loop μ-loop
+bit-at-requires c κs = search needs
+
+put-bit-requires : tie.Need-put-bit-requires Inv-loop μ-loop
+put-bit-requires c κs = search needs
+
+add-i : tie.Need-add-i Inv-loop μ-loop
+add-i c = search needs
+
+loop-less : tie.Need-loop-less Inv-loop μ-loop
+loop-less c = search needs
+
+loop-again : tie.Need-loop-again Inv-loop μ-loop
+loop-again c = search needs
+
+same-length : tie.Need-same-length Inv-loop μ-loop
+same-length c = search needs
+
+returns : tie.Need-returns Inv-loop μ-loop
+returns c = search needs
+
+pub put-client-spec : {M : Type 1} → statement M
+put-client-spec =
+    tie.close
+    (tie.spec
+    Inv-loop
+    μ-loop
+    loop-holds
+    mul-put-bit
+    add-put-bit
+    bit-at-requires
+    put-bit-requires
+    add-i
+    loop-less
+    loop-again
+    same-length
+    returns)

@@ -1,0 +1,3 @@
+-- The laws that the proofs of `made` cite.
+pub mod Halves
+pub mod Steps

@@ -1,0 +1,3 @@
+-- What the contracts of `made` are stated in.
+pub mod Generator
+pub mod Digest

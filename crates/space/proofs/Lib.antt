@@ -1,0 +1,2 @@
+-- The law that the proofs of `space` cite.
+pub mod Zeros
