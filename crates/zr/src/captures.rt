@@ -1,0 +1,104 @@
+// The commands on captures. The order of the arguments is that of the coder's entry points.
+use crate::files;
+use crate::said;
+use crate::sizes;
+use arguments::Number;
+
+// zr code N M0 INFO PARITY CAPTURE
+pub fn code(a: &mut sizes::Large, p: &mut sizes::Small, b: &mut sizes::Large) {
+    let Number::Is(n) = files::number(2, b"N") else {
+        return;
+    };
+    let Number::Is(m0) = files::number(3, b"M0") else {
+        return;
+    };
+    let info = files::load(4, a);
+    if !info.fine {
+        return;
+    }
+    let parity = files::load(5, p);
+    if !parity.fine {
+        return;
+    }
+    let i = info.bytes;
+    let j = parity.bytes;
+    let k = sizes::capture(n);
+    let answer = capture::code(n, m0, &a[..i], &p[..j], &mut b[..k]);
+    if answer.number != 0 {
+        said::refused(answer);
+        said::sets(answer, b"  N is 1 to 8 and M0 is 0 to 63\n");
+        said::length(answer, b"INFO", i, sizes::information(n));
+        said::length(answer, b"PARITY", j, sizes::parity(n));
+        return;
+    }
+    if files::save(6, &b[..k]) {
+        said::done(answer.count, b" words\n");
+    }
+}
+
+// zr read N M0 CAPTURE INFO PARITY
+pub fn read(a: &mut sizes::Large, b: &mut sizes::Large, p: &mut sizes::Small) {
+    let Number::Is(n) = files::number(2, b"N") else {
+        return;
+    };
+    let Number::Is(m0) = files::number(3, b"M0") else {
+        return;
+    };
+    let taken = files::load(4, a);
+    if !taken.fine {
+        return;
+    }
+    let i = taken.bytes;
+    let j = sizes::information(n);
+    let k = sizes::parity(n);
+    let answer = capture::read(n, m0, &a[..i], &mut b[..j], &mut p[..k]);
+    if answer.number != 0 {
+        said::refused(answer);
+        said::sets(answer, b"  N is 1 to 8 and M0 is 0 to 63\n");
+        said::length(answer, b"CAPTURE", i, sizes::capture(n));
+        return;
+    }
+    if files::save(5, &b[..j]) && files::save(6, &p[..k]) {
+        said::done(answer.count, b" words repaired\n");
+    }
+}
+
+// zr edit N BLOCK BITS PARITY CAPTURE OUT
+pub fn edit(p: &mut sizes::Small, a: &mut sizes::Large) {
+    let Number::Is(n) = files::number(2, b"N") else {
+        return;
+    };
+    let Number::Is(block) = files::number(3, b"BLOCK") else {
+        return;
+    };
+    let mut bits = [0u8; 34];
+    let new = files::load(4, &mut bits);
+    if !new.fine {
+        return;
+    }
+    let parity = files::load(5, p);
+    if !parity.fine {
+        return;
+    }
+    let taken = files::load(6, a);
+    if !taken.fine {
+        return;
+    }
+    let i = new.bytes;
+    let j = parity.bytes;
+    let k = taken.bytes;
+    let mut list = [0u64; 145];
+    let answer = capture::edit(n, block, &bits[..i], &p[..j], &mut a[..k], &mut list);
+    if answer.number != 0 {
+        said::refused(answer);
+        said::sets(answer, b"  N is 1 to 8 and BLOCK is 0 to 4760 N - 1\n");
+        said::length(answer, b"BITS", i, 33);
+        said::length(answer, b"PARITY", j, 2048);
+        said::length(answer, b"CAPTURE", k, sizes::capture(n));
+        return;
+    }
+    if files::save(7, &a[..k]) {
+        said::done(answer.count, b" words rewritten:");
+        said::words(&list, answer.count);
+    }
+}

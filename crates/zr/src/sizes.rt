@@ -1,0 +1,81 @@
+// How much the files of a command may hold. A space has one byte more than any file that is taken, so that a file that is too long is seen.
+ghost use mathlib.Core.Path.{_≡_};
+ghost use Prim.Native.Nat.{_≤_};
+ghost use lib.ListN.{length};
+
+// A capture of eight super frames has 1,412,608 bytes, and no other file is longer.
+pub type Large = [u8; 1412609];
+
+// The parity of eight super frames has 81,920 bytes.
+pub type Small = [u8; 81921];
+
+pub fn large_space() -> Large
+    ensures { λ r. ⌜ 1412609 ≡ length r ⌝ }
+{
+    [0; 1412609]
+}
+
+pub fn small_space() -> Small
+    ensures { λ r. ⌜ 81921 ≡ length r ⌝ }
+{
+    [0; 81921]
+}
+
+// The bytes of information of n super frames; 0 where no capture has so many.
+pub fn information(n: u64) -> usize
+    ensures { λ r. ⌜ r ≤ 1412609 ⌝ }
+{
+    if 8 < n {
+        return 0;
+    }
+    152915 * (n as usize)
+}
+
+// The bytes of parity of n super frames.
+pub fn parity(n: u64) -> usize
+    ensures { λ r. ⌜ r ≤ 81921 ⌝ }
+{
+    if 8 < n {
+        return 0;
+    }
+    10240 * (n as usize)
+}
+
+// The bytes of a capture of n super frames.
+pub fn capture(n: u64) -> usize
+    ensures { λ r. ⌜ r ≤ 1412609 ⌝ }
+{
+    if 8 < n {
+        return 0;
+    }
+    175616 * (n as usize) + 7680
+}
+
+// The bytes of a window of n places.
+pub fn window(n: u64) -> usize
+    ensures { λ r. ⌜ r ≤ 1412609 ⌝ }
+{
+    if gmp::PLACES < n {
+        return 0;
+    }
+    257 * (n as usize) / 2
+}
+
+// The bytes of the groups in the window of n places from f on: "The first j places hold floor(j·C / P) data places."
+pub fn groups(c: u64, f: u64, n: u64) -> usize
+    ensures { λ r. ⌜ r ≤ 1412609 ⌝ }
+{
+    if gmp::PLACES < c || gmp::PLACES < f || gmp::PLACES < n || f == 0 {
+        return 0;
+    }
+    let to = (f - 1 + n) * c / gmp::PLACES;
+    let before = (f - 1) * c / gmp::PLACES;
+    if to < before {
+        return 0;
+    }
+    let d = to - before;
+    if gmp::PLACES < d {
+        return 0;
+    }
+    ((257 * d + 1) / 2) as usize
+}

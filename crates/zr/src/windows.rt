@@ -1,0 +1,84 @@
+// The commands on GMP places.
+use crate::files;
+use crate::said;
+use crate::sizes;
+use answer::Answer;
+use arguments::Number;
+
+// zr map C F N GROUPS WINDOW
+pub fn map(a: &mut sizes::Large, b: &mut sizes::Large) {
+    let Number::Is(c) = files::number(2, b"C") else {
+        return;
+    };
+    let Number::Is(f) = files::number(3, b"F") else {
+        return;
+    };
+    let Number::Is(n) = files::number(4, b"N") else {
+        return;
+    };
+    let groups = files::load(5, a);
+    if !groups.fine {
+        return;
+    }
+    let i = groups.bytes;
+    let j = sizes::window(n);
+    let answer = gmp::map(c, f, n, &a[..i], &mut b[..j]);
+    if answer.number != 0 {
+        refused(answer);
+        said::length(answer, b"GROUPS", i, sizes::groups(c, f, n));
+        return;
+    }
+    if files::save(6, &b[..j]) {
+        said::done(answer.count, b" groups\n");
+    }
+}
+
+// zr unmap C F N WINDOW GROUPS
+pub fn unmap(a: &mut sizes::Large, b: &mut sizes::Large) {
+    let Number::Is(c) = files::number(2, b"C") else {
+        return;
+    };
+    let Number::Is(f) = files::number(3, b"F") else {
+        return;
+    };
+    let Number::Is(n) = files::number(4, b"N") else {
+        return;
+    };
+    let window = files::load(5, a);
+    if !window.fine {
+        return;
+    }
+    let i = window.bytes;
+    let j = sizes::groups(c, f, n);
+    let answer = gmp::unmap(c, f, n, &a[..i], &mut b[..j]);
+    if answer.number != 0 {
+        refused(answer);
+        said::length(answer, b"WINDOW", i, sizes::window(n));
+        return;
+    }
+    if files::save(6, &b[..j]) {
+        said::done(answer.count, b" groups\n");
+    }
+}
+
+fn refused(answer: Answer) {
+    said::refused(answer);
+    said::sets(
+        answer,
+        b"  C is 0 to 10220, F odd and 1 to 10219, N even and at least 2, and the window ends at or before place 10220\n",
+    );
+}
+
+// zr runs C
+pub fn runs() {
+    let Number::Is(c) = files::number(2, b"C") else {
+        return;
+    };
+    if gmp::PLACES < c {
+        let answer = answer::refuse(answer::OUTSIDE_SET, 0);
+        said::refused(answer);
+        said::sets(answer, b"  C is 0 to 10220\n");
+        return;
+    }
+    run_lines::print(c);
+}
