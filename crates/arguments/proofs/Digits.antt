@@ -58,3 +58,5 @@ module _ (s : List ℕ) (v : ℕ) (some : length s ≡ 0 → ⊥) (read : v ≡ 
       by : (t : Bool) → v ≡ seen t (decimal s (length s)) → Is v ≡ cond (not t) Not (Is (min (decimal s (length s)) most))
       by true h = ap Is h
       by false h = absurd (e h)
+
+pub ruleset answers = (not-empty, not-digits, digits)

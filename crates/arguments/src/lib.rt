@@ -16,7 +16,7 @@ pub const MOST: u64 = 1000000;
 const NO_NUMBER: u64 = 1000001;
 
 // The number that s is in decimal.
-pub fn number(s: &[u8]) -> Number
+pub fn number_of(s: &[u8]) -> Number
     ensures { λ r. ⌜ r ≡ numberOf (now (s .entry)) ⌝ }
 {
     if s.len() == 0 {

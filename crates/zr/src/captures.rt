@@ -6,10 +6,10 @@ use arguments::Number;
 
 // zr code N M0 INFO PARITY CAPTURE
 pub fn code(a: &mut sizes::Large, p: &mut sizes::Small, b: &mut sizes::Large) {
-    let Number::Is(n) = files::number(2, b"N") else {
+    let Number::Is(n) = files::number_at(2, b"N") else {
         return;
     };
-    let Number::Is(m0) = files::number(3, b"M0") else {
+    let Number::Is(m0) = files::number_at(3, b"M0") else {
         return;
     };
     let info = files::load(4, a);
@@ -38,10 +38,10 @@ pub fn code(a: &mut sizes::Large, p: &mut sizes::Small, b: &mut sizes::Large) {
 
 // zr read N M0 CAPTURE INFO PARITY
 pub fn read(a: &mut sizes::Large, b: &mut sizes::Large, p: &mut sizes::Small) {
-    let Number::Is(n) = files::number(2, b"N") else {
+    let Number::Is(n) = files::number_at(2, b"N") else {
         return;
     };
-    let Number::Is(m0) = files::number(3, b"M0") else {
+    let Number::Is(m0) = files::number_at(3, b"M0") else {
         return;
     };
     let taken = files::load(4, a);
@@ -65,10 +65,10 @@ pub fn read(a: &mut sizes::Large, b: &mut sizes::Large, p: &mut sizes::Small) {
 
 // zr edit N BLOCK BITS PARITY CAPTURE OUT
 pub fn edit(p: &mut sizes::Small, a: &mut sizes::Large) {
-    let Number::Is(n) = files::number(2, b"N") else {
+    let Number::Is(n) = files::number_at(2, b"N") else {
         return;
     };
-    let Number::Is(block) = files::number(3, b"BLOCK") else {
+    let Number::Is(block) = files::number_at(3, b"BLOCK") else {
         return;
     };
     let mut bits = [0u8; 34];

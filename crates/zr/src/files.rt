@@ -10,10 +10,10 @@ pub struct Loaded {
 }
 
 // The number that argument i is.
-pub fn number(i: usize, name: &[u8]) -> Number {
+pub fn number_at(i: usize, name: &[u8]) -> Number {
     let mut word = io::buffer();
     let k = os::arg(i, &mut word);
-    let read = arguments::number(&word[..k]);
+    let read = arguments::number_of(&word[..k]);
     if let Number::Not = read {
         said::failed(name, b" must be a whole number in decimal, and is ");
         said::line(&word[..k]);

@@ -5,8 +5,6 @@ mod said;
 mod sizes;
 mod windows;
 
-use arguments::Number;
-
 enum Command {
     Code,
     Read,

@@ -7,13 +7,13 @@ use arguments::Number;
 
 // zr map C F N GROUPS WINDOW
 pub fn map(a: &mut sizes::Large, b: &mut sizes::Large) {
-    let Number::Is(c) = files::number(2, b"C") else {
+    let Number::Is(c) = files::number_at(2, b"C") else {
         return;
     };
-    let Number::Is(f) = files::number(3, b"F") else {
+    let Number::Is(f) = files::number_at(3, b"F") else {
         return;
     };
-    let Number::Is(n) = files::number(4, b"N") else {
+    let Number::Is(n) = files::number_at(4, b"N") else {
         return;
     };
     let groups = files::load(5, a);
@@ -35,13 +35,13 @@ pub fn map(a: &mut sizes::Large, b: &mut sizes::Large) {
 
 // zr unmap C F N WINDOW GROUPS
 pub fn unmap(a: &mut sizes::Large, b: &mut sizes::Large) {
-    let Number::Is(c) = files::number(2, b"C") else {
+    let Number::Is(c) = files::number_at(2, b"C") else {
         return;
     };
-    let Number::Is(f) = files::number(3, b"F") else {
+    let Number::Is(f) = files::number_at(3, b"F") else {
         return;
     };
-    let Number::Is(n) = files::number(4, b"N") else {
+    let Number::Is(n) = files::number_at(4, b"N") else {
         return;
     };
     let window = files::load(5, a);
@@ -71,7 +71,7 @@ fn refused(answer: Answer) {
 
 // zr runs C
 pub fn runs() {
-    let Number::Is(c) = files::number(2, b"C") else {
+    let Number::Is(c) = files::number_at(2, b"C") else {
         return;
     };
     if gmp::PLACES < c {
