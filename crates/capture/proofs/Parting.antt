@@ -5,7 +5,7 @@ use mathlib.Core.Path.{_≡_, refl, sym, ap, _∙_}
 use mathlib.Core.List.{List, [], _∷_}
 use native.Mathlib.Nat.{add-sub-cancel-left}
 use native.Mathlib.Omega.{arith}
-use borrow.Author.Tests.{ltb-true, not-false}
+use borrow.Author.Tests.{ltb-true, lt-ltb, le-ltb, eq-eqb, ne-eqb, not-false}
 use lib.Dec.{ltb}
 use lib.ListN.{length, take, drop}
 use Rattle.answer.specs.Numbers.{allDone, outsideSet, wrongLength}
@@ -27,6 +27,22 @@ part-chain N t info =
     row-whole outsideSet (not (superAllowed N && ltb t (fecBlocks * N))) (buffers wrongLength wrongs ∷ []) 0
     ∙ ap (cond (not (superAllowed N && ltb t (fecBlocks * N))) (refused outsideSet 0)) (row-buffers wrongLength wrongs [] 0)
     ∙ two-tests (superAllowed N) (ltb t (fecBlocks * N)) (refused outsideSet 0) (inTurn wrongLength wrongs 1 (done 0))
+
+-- each way out of the chain
+module _ (N t : ℕ) (info : List ℕ) where
+  pub no-frames : superAllowed N ≡ false → refused outsideSet 0 ≡ partAnswer N t info
+  no-frames a = rw (part-chain N t info, a)
+
+  pub no-block : superAllowed N ≡ true → fecBlocks * N ≤ t → refused outsideSet 0 ≡ partAnswer N t info
+  no-block a b = rw (part-chain N t info, a, le-ltb t (fecBlocks * N) b)
+
+  pub no-length : superAllowed N ≡ true → t < fecBlocks * N → (length info ≡ infoLength N → ⊥) → refused wrongLength (bufferPlace 1) ≡ partAnswer N t info
+  unfolding wrong
+  no-length a b d = rw (part-chain N t info, a, lt-ltb t (fecBlocks * N) b, ne-eqb (length info) (infoLength N) d)
+
+  pub all-right : superAllowed N ≡ true → t < fecBlocks * N → length info ≡ infoLength N → done 0 ≡ partAnswer N t info
+  unfolding wrong
+  all-right a b d = rw (part-chain N t info, a, lt-ltb t (fecBlocks * N) b, eq-eqb (length info) (infoLength N) d)
 
 -- a granted request
 pub record Part (N t : ℕ) (info : List ℕ) : Type 0 where

@@ -239,17 +239,17 @@ fn crc_change(b: usize, bits: &[u8], capture: &[u8], scr: &[u8; 163268]) -> u32
 
 // ---- a word made anew
 
-// The new bit at place p of the information and place k of the super frame, where x was received.
-fn new_info_bit(b: usize, bits: &[u8], scr: &[u8; 163268], p: usize, k: usize, x: u8) -> u8
+// The new bit at place p of the information and place k of the super frame, where `kept` was received.
+fn new_info_bit(b: usize, bits: &[u8], scr: &[u8; 163268], p: usize, k: usize, kept: u8) -> u8
     requires { ⌜ (now scr ≡ pack frameBytes o) × (k < superBits) ⌝ }
-    ensures { λ r. ⌜ r ≡ newInfoBit b (now (bits .entry)) p k x ⌝ }
+    ensures { λ r. ⌜ r ≡ newInfoBit b (now (bits .entry)) p k kept ⌝ }
 {
     let from = 257 * (b % 952);
     if p < from {
-        return x;
+        return kept;
     }
     if from + 257 <= p {
-        return x;
+        return kept;
     }
     add(bits::bit_at(bits, p - from), bits::bit_at(scr, k))
 }
@@ -411,17 +411,8 @@ fn turn(
     ensures { λ r. ⌜ Turned n b (now (bits .entry)) (now (parity .entry)) crc w c (now (capture .entry)) (now (list .entry)) (now (capture .exit)) (now (list .exit)) r ⌝ }
 {
     if is_listed(n, b, w) {
-        let v = new_word(
-            b,
-            bits,
-            parity,
-            scr,
-            t,
-            tails,
-            crc,
-            w,
-            line::word_in(capture, w),
-        );
+        let old = line::word_in(capture, w);
+        let v = new_word(b, bits, parity, scr, t, tails, crc, w, old);
         put_word(capture, w, v);
         list[c] = w as u64;
         return c + 1;

@@ -1,6 +1,6 @@
 -- `editor::put_word` meets its contract. Assumes nothing.
 use Prim.Native.Nat.{_-_, _≤_}
-use mathlib.Core.Path.{_≡_, refl, _∙_}
+use mathlib.Core.Path.{_≡_, refl}
 use lib.ListN.{length, length-set}
 use native.Mathlib.Omega.{arith}
 use Rattle.bits.proofs.LoopLaws.{Folded, folded-none, folded-more, folded-all}
