@@ -25,9 +25,10 @@ pub extern "C" fn zr400_run(c: u64, j: u64) -> HostRun
     ensures { λ r. ⌜ r ≡ hosted (runOf c j) ⌝ }
 {
     let run = gmp::run(c, j);
+    let kind = run.kind;
     HostRun {
         number: run.number,
-        kind: kind_number(run.kind),
+        kind: kind_number(kind),
         last: run.last,
     }
 }
