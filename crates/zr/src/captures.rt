@@ -5,7 +5,7 @@ use crate::sizes;
 use arguments::Number;
 
 // zr code N M0 INFO PARITY CAPTURE
-pub fn code(a: &mut sizes::Large, p: &mut sizes::Small, b: &mut sizes::Large) {
+pub fn code(a: &mut [u8], p: &mut [u8], b: &mut [u8]) {
     let Number::Is(n) = files::number_at(2, b"N") else {
         return;
     };
@@ -20,9 +20,9 @@ pub fn code(a: &mut sizes::Large, p: &mut sizes::Small, b: &mut sizes::Large) {
     if !parity.fine {
         return;
     }
-    let i = info.bytes;
-    let j = parity.bytes;
-    let k = sizes::capture(n);
+    let i = sizes::fit(info.bytes, a);
+    let j = sizes::fit(parity.bytes, p);
+    let k = sizes::fit(sizes::capture(n), b);
     let answer = capture::code(n, m0, &a[..i], &p[..j], &mut b[..k]);
     if answer.number != 0 {
         said::refused(answer);
@@ -31,13 +31,13 @@ pub fn code(a: &mut sizes::Large, p: &mut sizes::Small, b: &mut sizes::Large) {
         said::length(answer, b"PARITY", j, sizes::parity(n));
         return;
     }
-    if files::save(6, &b[..k]) {
+    if files::save(6, b, k) {
         said::done(answer.count, b" words\n");
     }
 }
 
 // zr read N M0 CAPTURE INFO PARITY
-pub fn read(a: &mut sizes::Large, b: &mut sizes::Large, p: &mut sizes::Small) {
+pub fn read(a: &mut [u8], b: &mut [u8], p: &mut [u8]) {
     let Number::Is(n) = files::number_at(2, b"N") else {
         return;
     };
@@ -48,9 +48,9 @@ pub fn read(a: &mut sizes::Large, b: &mut sizes::Large, p: &mut sizes::Small) {
     if !taken.fine {
         return;
     }
-    let i = taken.bytes;
-    let j = sizes::information(n);
-    let k = sizes::parity(n);
+    let i = sizes::fit(taken.bytes, a);
+    let j = sizes::fit(sizes::information(n), b);
+    let k = sizes::fit(sizes::parity(n), p);
     let answer = capture::read(n, m0, &a[..i], &mut b[..j], &mut p[..k]);
     if answer.number != 0 {
         said::refused(answer);
@@ -58,13 +58,13 @@ pub fn read(a: &mut sizes::Large, b: &mut sizes::Large, p: &mut sizes::Small) {
         said::length(answer, b"CAPTURE", i, sizes::capture(n));
         return;
     }
-    if files::save(5, &b[..j]) && files::save(6, &p[..k]) {
+    if files::save(5, b, j) && files::save(6, p, k) {
         said::done(answer.count, b" words repaired\n");
     }
 }
 
 // zr edit N BLOCK BITS PARITY CAPTURE OUT
-pub fn edit(p: &mut sizes::Small, a: &mut sizes::Large) {
+pub fn edit(p: &mut [u8], a: &mut [u8]) {
     let Number::Is(n) = files::number_at(2, b"N") else {
         return;
     };
@@ -84,9 +84,9 @@ pub fn edit(p: &mut sizes::Small, a: &mut sizes::Large) {
     if !taken.fine {
         return;
     }
-    let i = new.bytes;
-    let j = parity.bytes;
-    let k = taken.bytes;
+    let i = sizes::fit(new.bytes, &bits);
+    let j = sizes::fit(parity.bytes, p);
+    let k = sizes::fit(taken.bytes, a);
     let mut list = [0u64; 145];
     let answer = capture::edit(n, block, &bits[..i], &p[..j], &mut a[..k], &mut list);
     if answer.number != 0 {
@@ -97,7 +97,7 @@ pub fn edit(p: &mut sizes::Small, a: &mut sizes::Large) {
         said::length(answer, b"CAPTURE", k, sizes::capture(n));
         return;
     }
-    if files::save(7, &a[..k]) {
+    if files::save(7, a, k) {
         said::done(answer.count, b" words rewritten:");
         said::words(&list, answer.count);
     }

@@ -1,6 +1,7 @@
 // The files and numbers that the arguments name. What goes wrong with one is said here, once.
-ghost use Rattle.io.specs.Counts.{Counts};
+ghost use Prim.Native.Nat.{_≤_, _<_};
 use crate::said;
+use crate::sizes;
 use arguments::Number;
 
 // Whether a file could be read, and how many of its bytes are in the space that was lent.
@@ -22,9 +23,7 @@ pub fn number_at(i: usize, name: &[u8]) -> Number {
 }
 
 // Reads the file that argument i names, to its end or until `into` is full.
-pub fn load(i: usize, into: &mut [u8]) -> Loaded
-    ensures { λ r. ⌜ Counts (r .bytes) (now (into .exit)) ⌝ }
-{
+pub fn load(i: usize, into: &mut [u8]) -> Loaded {
     let mut path = io::buffer();
     let k = os::arg(i, &mut path);
     let fd = os::open_read(&path[..k]);
@@ -45,26 +44,19 @@ pub fn load(i: usize, into: &mut [u8]) -> Loaded
     loaded
 }
 
-fn read_all(fd: i32, into: &mut [u8]) -> Loaded
-    ensures { λ r. ⌜ Counts (r .bytes) (now (into .exit)) ⌝ }
-{
+// A read that moves nothing ends the file, or fails.
+fn read_all(fd: i32, into: &mut [u8]) -> Loaded {
     let mut done = 0;
     while done < into.len() {
         let got = libc::read(fd, &mut into[done..]);
-        if got < 0 {
-            return Loaded {
-                fine: false,
-                bytes: 0,
-            };
-        }
-        let more = io::count(got, &into[done..]);
+        let more = io::count(got, into);
         if more == 0 {
             return Loaded {
-                fine: true,
+                fine: got == 0,
                 bytes: done,
             };
         }
-        done += more;
+        done = moved(done, more, into.len());
     }
     Loaded {
         fine: true,
@@ -72,8 +64,18 @@ fn read_all(fd: i32, into: &mut [u8]) -> Loaded
     }
 }
 
-// Writes the file that argument i names, over what was there.
-pub fn save(i: usize, bytes: &[u8]) -> bool {
+fn moved(done: usize, more: usize, all: usize) -> usize
+    requires { ⌜ (done < all) × (0 < more) ⌝ }
+    ensures { λ r. ⌜ (done < r) × (r ≤ all) ⌝ }
+{
+    if all - done < more {
+        return all;
+    }
+    done + more
+}
+
+// Writes the first bytes of a space to the file that argument i names, over what was there.
+pub fn save(i: usize, space: &[u8], bytes: usize) -> bool {
     let mut path = io::buffer();
     let k = os::arg(i, &mut path);
     let fd = os::open_overwrite(&path[..k]);
@@ -82,12 +84,12 @@ pub fn save(i: usize, bytes: &[u8]) -> bool {
         said::failed(&path[..k], b" cannot be opened for writing\n");
         return false;
     }
-    let written = io::write_all(fd, bytes);
-    let closed = libc::close(fd);
-    if !written || closed < 0 {
+    let n = sizes::fit(bytes, space);
+    let written = io::write_all(fd, &space[..n]);
+    if !written {
         os::fail(&path[..k]);
         said::failed(&path[..k], b" cannot be written, and is not whole\n");
-        return false;
     }
-    true
+    libc::close(fd);
+    written
 }

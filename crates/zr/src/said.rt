@@ -67,16 +67,18 @@ pub fn sets(answer: Answer, text: &[u8]) {
 
 // Under a refusal by 2: a file whose length is wrong.
 pub fn length(answer: Answer, name: &[u8], has: usize, wanted: usize) {
-    if answer.number == answer::WRONG_LENGTH && has != wanted {
-        say(b"  ");
-        say(name);
+    if answer.number != answer::WRONG_LENGTH || has == wanted {
+        return;
+    }
+    say(b"  ");
+    say(name);
+    if wanted < has {
+        say(b" has more than the ");
+        say_number(wanted as u64);
+        say(b" bytes that are wanted\n");
+    } else {
         say(b" has ");
-        if wanted < has {
-            say(b"more than ");
-            say_number(wanted as u64);
-        } else {
-            say_number(has as u64);
-        }
+        say_number(has as u64);
         say(b" bytes, and ");
         say_number(wanted as u64);
         say(b" are wanted\n");
@@ -93,6 +95,10 @@ pub fn failed(what: &[u8], why: &[u8]) {
 // What an argument was, on the rest of the line.
 pub fn line(text: &[u8]) {
     say(text);
+    end_line();
+}
+
+fn end_line() {
     say(b"\n");
 }
 
@@ -105,7 +111,7 @@ pub fn words(list: &[u64; 145], count: u64) {
         }
         k += 1;
     }
-    say(b"\n");
+    end_line();
 }
 
 fn say_word(k: usize, word: u64) {

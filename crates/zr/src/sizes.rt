@@ -2,6 +2,7 @@
 ghost use mathlib.Core.Path.{_≡_};
 ghost use Prim.Native.Nat.{_≤_};
 ghost use lib.ListN.{length};
+ghost use Rattle.io.specs.Counts.{Counts};
 
 // A capture of eight super frames has 1,412,608 bytes, and no other file is longer.
 pub type Large = [u8; 1412609];
@@ -21,10 +22,18 @@ pub fn small_space() -> Small
     [0; 81921]
 }
 
-// The bytes of information of n super frames; 0 where no capture has so many.
-pub fn information(n: u64) -> usize
-    ensures { λ r. ⌜ r ≤ 1412609 ⌝ }
+// As many bytes of a space as are wanted, or fewer where it has no room for them.
+pub fn fit(wanted: usize, space: &[u8]) -> usize
+    ensures { λ r. ⌜ Counts r (now (space .entry)) ⌝ }
 {
+    if 1412609 < wanted {
+        return io::count(0, space);
+    }
+    io::count(wanted as isize, space)
+}
+
+// The bytes of information of n super frames; 0 where no capture has so many.
+pub fn information(n: u64) -> usize {
     if 8 < n {
         return 0;
     }
@@ -32,9 +41,7 @@ pub fn information(n: u64) -> usize
 }
 
 // The bytes of parity of n super frames.
-pub fn parity(n: u64) -> usize
-    ensures { λ r. ⌜ r ≤ 81921 ⌝ }
-{
+pub fn parity(n: u64) -> usize {
     if 8 < n {
         return 0;
     }
@@ -42,9 +49,7 @@ pub fn parity(n: u64) -> usize
 }
 
 // The bytes of a capture of n super frames.
-pub fn capture(n: u64) -> usize
-    ensures { λ r. ⌜ r ≤ 1412609 ⌝ }
-{
+pub fn capture(n: u64) -> usize {
     if 8 < n {
         return 0;
     }
@@ -52,30 +57,40 @@ pub fn capture(n: u64) -> usize
 }
 
 // The bytes of a window of n places.
-pub fn window(n: u64) -> usize
-    ensures { λ r. ⌜ r ≤ 1412609 ⌝ }
-{
+pub fn window(n: u64) -> usize {
     if gmp::PLACES < n {
         return 0;
     }
     257 * (n as usize) / 2
 }
 
-// The bytes of the groups in the window of n places from f on: "The first j places hold floor(j·C / P) data places."
-pub fn groups(c: u64, f: u64, n: u64) -> usize
-    ensures { λ r. ⌜ r ≤ 1412609 ⌝ }
+// The bytes of the groups in the window of n places from f on: "The first j places hold floor(j·C / P) data places." Where the
+// numbers are outside their sets it is 0, and mapping refuses them.
+pub fn groups(c: u64, f: u64, n: u64) -> usize {
+    if gmp::PLACES < c {
+        return 0;
+    }
+    if gmp::PLACES < n {
+        return 0;
+    }
+    if gmp::PLACES < f {
+        return 0;
+    }
+    if f < 1 {
+        return 0;
+    }
+    let to = places_before(f + n, c);
+    let from = places_before(f, c);
+    if to < from {
+        return 0;
+    }
+    ((257 * (to - from) + 1) / 2) as usize
+}
+
+// How many of the places before j hold data.
+fn places_before(j: u64, c: u64) -> u64
+    requires { ⌜ (1 ≤ j) × (j ≤ 20440) × (c ≤ 10220) ⌝ }
+    ensures { λ r. ⌜ r ≤ 30000 ⌝ }
 {
-    if gmp::PLACES < c || gmp::PLACES < f || gmp::PLACES < n || f == 0 {
-        return 0;
-    }
-    let to = (f - 1 + n) * c / gmp::PLACES;
-    let before = (f - 1) * c / gmp::PLACES;
-    if to < before {
-        return 0;
-    }
-    let d = to - before;
-    if gmp::PLACES < d {
-        return 0;
-    }
-    ((257 * d + 1) / 2) as usize
+    (j - 1) * c / gmp::PLACES
 }

@@ -6,7 +6,7 @@ use answer::Answer;
 use arguments::Number;
 
 // zr map C F N GROUPS WINDOW
-pub fn map(a: &mut sizes::Large, b: &mut sizes::Large) {
+pub fn map(a: &mut [u8], b: &mut [u8]) {
     let Number::Is(c) = files::number_at(2, b"C") else {
         return;
     };
@@ -20,21 +20,21 @@ pub fn map(a: &mut sizes::Large, b: &mut sizes::Large) {
     if !groups.fine {
         return;
     }
-    let i = groups.bytes;
-    let j = sizes::window(n);
+    let i = sizes::fit(groups.bytes, a);
+    let j = sizes::fit(sizes::window(n), b);
     let answer = gmp::map(c, f, n, &a[..i], &mut b[..j]);
     if answer.number != 0 {
         refused(answer);
         said::length(answer, b"GROUPS", i, sizes::groups(c, f, n));
         return;
     }
-    if files::save(6, &b[..j]) {
+    if files::save(6, b, j) {
         said::done(answer.count, b" groups\n");
     }
 }
 
 // zr unmap C F N WINDOW GROUPS
-pub fn unmap(a: &mut sizes::Large, b: &mut sizes::Large) {
+pub fn unmap(a: &mut [u8], b: &mut [u8]) {
     let Number::Is(c) = files::number_at(2, b"C") else {
         return;
     };
@@ -48,15 +48,15 @@ pub fn unmap(a: &mut sizes::Large, b: &mut sizes::Large) {
     if !window.fine {
         return;
     }
-    let i = window.bytes;
-    let j = sizes::groups(c, f, n);
+    let i = sizes::fit(window.bytes, a);
+    let j = sizes::fit(sizes::groups(c, f, n), b);
     let answer = gmp::unmap(c, f, n, &a[..i], &mut b[..j]);
     if answer.number != 0 {
         refused(answer);
         said::length(answer, b"WINDOW", i, sizes::window(n));
         return;
     }
-    if files::save(6, &b[..j]) {
+    if files::save(6, b, j) {
         said::done(answer.count, b" groups\n");
     }
 }
