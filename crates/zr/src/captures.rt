@@ -1,4 +1,4 @@
-// The commands on captures. The order of the arguments is that of the coder's entry points.
+// The commands on captures. Each reads its arguments and files, and hands what it read to a function that calls the coder.
 use crate::files;
 use crate::said;
 use crate::sizes;
@@ -20,8 +20,12 @@ pub fn code(a: &mut [u8], p: &mut [u8], b: &mut [u8]) {
     if !parity.fine {
         return;
     }
-    let i = sizes::fit(info.bytes, a);
-    let j = sizes::fit(parity.bytes, p);
+    code_loaded(n, m0, a, info.bytes, p, parity.bytes, b);
+}
+
+fn code_loaded(n: u64, m0: u64, a: &[u8], info: usize, p: &[u8], parity: usize, b: &mut [u8]) {
+    let i = sizes::fit(info, a);
+    let j = sizes::fit(parity, p);
     let k = sizes::fit(sizes::capture(n), b);
     let answer = capture::code(n, m0, &a[..i], &p[..j], &mut b[..k]);
     if answer.number != 0 {
@@ -48,7 +52,11 @@ pub fn read(a: &mut [u8], b: &mut [u8], p: &mut [u8]) {
     if !taken.fine {
         return;
     }
-    let i = sizes::fit(taken.bytes, a);
+    read_loaded(n, m0, a, taken.bytes, b, p);
+}
+
+fn read_loaded(n: u64, m0: u64, a: &[u8], taken: usize, b: &mut [u8], p: &mut [u8]) {
+    let i = sizes::fit(taken, a);
     let j = sizes::fit(sizes::information(n), b);
     let k = sizes::fit(sizes::parity(n), p);
     let answer = capture::read(n, m0, &a[..i], &mut b[..j], &mut p[..k]);
@@ -84,9 +92,22 @@ pub fn edit(p: &mut [u8], a: &mut [u8]) {
     if !taken.fine {
         return;
     }
-    let i = sizes::fit(new.bytes, &bits);
-    let j = sizes::fit(parity.bytes, p);
-    let k = sizes::fit(taken.bytes, a);
+    edit_loaded(n, block, &bits, new.bytes, p, parity.bytes, a, taken.bytes);
+}
+
+fn edit_loaded(
+    n: u64,
+    block: u64,
+    bits: &[u8],
+    new: usize,
+    p: &[u8],
+    parity: usize,
+    a: &mut [u8],
+    taken: usize,
+) {
+    let i = sizes::fit(new, bits);
+    let j = sizes::fit(parity, p);
+    let k = sizes::fit(taken, a);
     let mut list = [0u64; 145];
     let answer = capture::edit(n, block, &bits[..i], &p[..j], &mut a[..k], &mut list);
     if answer.number != 0 {

@@ -20,7 +20,11 @@ pub fn map(a: &mut [u8], b: &mut [u8]) {
     if !groups.fine {
         return;
     }
-    let i = sizes::fit(groups.bytes, a);
+    map_loaded(c, f, n, a, groups.bytes, b);
+}
+
+fn map_loaded(c: u64, f: u64, n: u64, a: &[u8], groups: usize, b: &mut [u8]) {
+    let i = sizes::fit(groups, a);
     let j = sizes::fit(sizes::window(n), b);
     let answer = gmp::map(c, f, n, &a[..i], &mut b[..j]);
     if answer.number != 0 {
@@ -48,7 +52,11 @@ pub fn unmap(a: &mut [u8], b: &mut [u8]) {
     if !window.fine {
         return;
     }
-    let i = sizes::fit(window.bytes, a);
+    unmap_loaded(c, f, n, a, window.bytes, b);
+}
+
+fn unmap_loaded(c: u64, f: u64, n: u64, a: &[u8], window: usize, b: &mut [u8]) {
+    let i = sizes::fit(window, a);
     let j = sizes::fit(sizes::groups(c, f, n), b);
     let answer = gmp::unmap(c, f, n, &a[..i], &mut b[..j]);
     if answer.number != 0 {

@@ -5,11 +5,6 @@ use lib.ListN.{length}
 use borrow.Author.Needs.{needs}
 use Rattle.zr.proofs.files.read_all.Statement.{statement}
 use Rattle.zr.proofs.files.read_all.Tie as tie
-use Rattle.zr.proofs.files.read_all.Reads as reads
-use Rattle.zr.proofs.files.read_all.Lts as lts
-use Rattle.io.proofs.count.Reads as count-reads
-use Rattle.libc.proofs.read.Reads as read-reads
-use Rattle.zr.proofs.files.moved.Reads as moved-reads
 
 abbrev Inv-loop : tie.InvT-loop
 Inv-loop fd into₀ done₀ into done = (done ≤ length into) × (length into ≡ length into₀)

@@ -3,10 +3,6 @@ use Prim.Native.Nat.{_-_, _≤_}
 use borrow.Author.Needs.{needs}
 use Rattle.zr.proofs.said.words.Statement.{statement}
 use Rattle.zr.proofs.said.words.Tie as tie
-use Rattle.zr.proofs.said.words.Reads as reads
-use Rattle.zr.proofs.said.words.Lts as lts
-use Rattle.zr.proofs.said.end_line.Reads as end-line-reads
-use Rattle.zr.proofs.said.say_word.Reads as say-word-reads
 
 abbrev Inv-loop : tie.InvT-loop
 Inv-loop list count k₀ k = k ≤ 145
