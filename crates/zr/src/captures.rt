@@ -36,7 +36,7 @@ fn code_loaded(n: u64, m0: u64, a: &[u8], info: usize, p: &[u8], parity: usize, 
         return;
     }
     if files::save(6, b, k) {
-        said::done(answer.count, b" words\n");
+        said::done(answer.count, b" word\n", b" words\n");
     }
 }
 
@@ -67,7 +67,7 @@ fn read_loaded(n: u64, m0: u64, a: &[u8], taken: usize, b: &mut [u8], p: &mut [u
         return;
     }
     if files::save(5, b, j) && files::save(6, p, k) {
-        said::done(answer.count, b" words repaired\n");
+        said::done(answer.count, b" word repaired\n", b" words repaired\n");
     }
 }
 
@@ -119,7 +119,7 @@ fn edit_loaded(
         return;
     }
     if files::save(7, a, k) {
-        said::done(answer.count, b" words rewritten:");
+        said::done(answer.count, b" word rewritten:", b" words rewritten:");
         said::words(&list, answer.count);
     }
 }

@@ -10,11 +10,15 @@ fn say_number(number: u64) {
     io::print_decimal(STDOUT_FILENO, number);
 }
 
-// Done, with a count and what it counts.
-pub fn done(count: u64, of: &[u8]) {
+// Done, with a count and what it counts: one of them, or any other number.
+pub fn done(count: u64, one: &[u8], many: &[u8]) {
     say(b"done: ");
     say_number(count);
-    say(of);
+    if count == 1 {
+        say(one);
+    } else {
+        say(many);
+    }
 }
 
 // Refused, with the number, the place and what they mean.

@@ -33,7 +33,7 @@ fn map_loaded(c: u64, f: u64, n: u64, a: &[u8], groups: usize, b: &mut [u8]) {
         return;
     }
     if files::save(6, b, j) {
-        said::done(answer.count, b" groups\n");
+        said::done(answer.count, b" group\n", b" groups\n");
     }
 }
 
@@ -65,7 +65,7 @@ fn unmap_loaded(c: u64, f: u64, n: u64, a: &[u8], window: usize, b: &mut [u8]) {
         return;
     }
     if files::save(6, b, j) {
-        said::done(answer.count, b" groups\n");
+        said::done(answer.count, b" group\n", b" groups\n");
     }
 }
 
