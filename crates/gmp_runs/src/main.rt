@@ -1,11 +1,6 @@
 // Reads a count from the first line of standard input and lists its runs: document 01, "GMP places".
-ghost use Prim.Native.Nat.{_≤_};
-ghost use Rattle.gmp.specs.Places.{places};
 use count_line::Line;
-use gmp::Kind;
-use gmp::Run;
 use libc::STDIN_FILENO;
-use libc::STDOUT_FILENO;
 
 // A part of the input was read: what is kept of the first line, and whether there may be more of it.
 struct Part {
@@ -42,45 +37,11 @@ fn read_line() -> Line {
     line
 }
 
-fn print_run(from: u64, run: Run) {
-    let kind = run.kind;
-    match kind {
-        Kind::Stuff => {
-            io::write_all(STDOUT_FILENO, b"S ");
-        }
-        Kind::Data => {
-            io::write_all(STDOUT_FILENO, b"D ");
-        }
-    }
-    io::print_decimal(STDOUT_FILENO, from);
-    io::write_all(STDOUT_FILENO, b"-");
-    io::print_decimal(STDOUT_FILENO, run.last);
-    io::write_all(STDOUT_FILENO, b"\n");
-}
-
-fn print_runs(c: u64)
-    requires { ⌜ c ≤ places ⌝ }
-{
-    let mut j = 1;
-    while j <= gmp::PLACES {
-        let run = gmp::run(c, j);
-        print_run(j, run);
-        j = run.last + 1;
-    }
-}
-
-fn print_named(name: &[u8], number: u64) {
-    io::write_all(STDOUT_FILENO, name);
-    io::print_decimal(STDOUT_FILENO, number);
-    io::write_all(STDOUT_FILENO, b"\n");
-}
-
 fn main() {
     let answer = count_line::so_far(read_line());
     if answer.number != 0 {
-        print_named(b"refused ", answer.number);
+        run_lines::print_named(b"refused ", answer.number);
         return;
     }
-    print_named(b"Cm ", answer.count);
-    print_runs(answer.count);
+    run_lines::print(answer.count);
 }

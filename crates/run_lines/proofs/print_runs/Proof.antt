@@ -1,15 +1,15 @@
--- `gmp_runs::print_runs` is safe and ends: a run ends at or behind the place asked for, and the measure is the number of places that are left. Assumes nothing.
+-- `run_lines::print_runs` is safe and ends: a run ends at or behind the place asked for, and the measure is the number of places that are left. Assumes nothing.
 use Prim.Native.Nat.{_-_, _≤_}
 use native.Mathlib.Omega.{arith}
 use Rattle.gmp.specs.Places.{Place}
 use Rattle.gmp.specs.Runs.{EndsRun}
 use Rattle.gmp.proofs.Asked.{run-ends}
-use Rattle.gmp_runs.proofs.print_runs.Statement.{statement}
-use Rattle.gmp_runs.proofs.print_runs.Tie as tie
-use Rattle.gmp_runs.proofs.print_runs.Reads as reads
-use Rattle.gmp_runs.proofs.print_runs.Lts as lts
+use Rattle.run_lines.proofs.print_runs.Statement.{statement}
+use Rattle.run_lines.proofs.print_runs.Tie as tie
+use Rattle.run_lines.proofs.print_runs.Reads as reads
+use Rattle.run_lines.proofs.print_runs.Lts as lts
 use Rattle.gmp.proofs.run.Reads as run-reads
-use Rattle.gmp_runs.proofs.print_run.Reads as print-run-reads
+use Rattle.run_lines.proofs.print_run.Reads as print-run-reads
 
 abbrev Inv-loop : tie.InvT-loop
 Inv-loop c j₀ j = (1 ≤ j) × (j ≤ 10221)

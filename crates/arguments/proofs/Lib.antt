@@ -1,0 +1,2 @@
+-- The laws of `arguments`.
+pub mod Digits

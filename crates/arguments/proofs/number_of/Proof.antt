@@ -1,0 +1,20 @@
+-- `arguments::number_of` meets its contract: each return by the tests that led there. Assumes nothing.
+use Rattle.arguments.proofs.Digits.{answers}
+use borrow.Author.Needs.{needs}
+use Rattle.arguments.proofs.number_of.Statement.{statement}
+use Rattle.arguments.proofs.number_of.Tie as tie
+
+returns : tie.Need-returns
+returns c = search answers
+
+value-requires : tie.Need-value-requires
+value-requires c κs = search needs
+
+returns-2 : tie.Need-returns-2
+returns-2 c = search answers
+
+returns-3 : tie.Need-returns-3
+returns-3 c = search answers
+
+pub number-of-spec : {M : Type 1} → statement M
+number-of-spec = tie.close (tie.spec returns value-requires returns-2 returns-3)

@@ -1,0 +1,41 @@
+-- `arguments::step` meets its contract: each return by the tests that led there. Assumes nothing.
+use borrow.Author.Tests.{lt-ltb, le-ltb, le-leb, lt-leb}
+use native.Mathlib.Omega.{arith}
+use Rattle.arguments.specs.Numbers.{stepOf}
+use borrow.Author.Needs.{needs}
+use Rattle.arguments.proofs.step.Statement.{statement}
+use Rattle.arguments.proofs.step.Tie as tie
+
+returns : tie.Need-returns
+unfolding stepOf
+returns c = simp (lt-ltb _ _ (c .if1 .taken))
+
+returns-2 : tie.Need-returns-2
+unfolding stepOf
+returns-2 c = simp (le-ltb _ _ (c .before .if1 .left), lt-leb _ _ (c .if2 .taken))
+
+returns-3 : tie.Need-returns-3
+unfolding stepOf
+returns-3 c = simp (le-ltb _ _ (c .before .before .if1 .left), le-leb _ _ (c .before .if2 .left), lt-leb _ _ (c .if3 .taken))
+
+mul-next : tie.Need-mul-next
+mul-next c = search needs
+
+cast-next : tie.Need-cast-next
+cast-next c = search needs
+
+add-next : tie.Need-add-next
+add-next c = search needs
+
+returns-4 : tie.Need-returns-4
+unfolding stepOf
+returns-4 c = simp (le-ltb _ _ (c .before .before .before .if1 .left), le-leb _ _ (c .before .before .if2 .left), le-leb _ _ (c .before .if3 .left)) (omega arith)
+
+returns-5 : tie.Need-returns-5
+unfolding stepOf
+returns-5 c = simp (le-ltb _ _ (c .before .before .before .if1 .left), le-leb _ _ (c .before .before .if2 .left), le-leb _ _ (c .before .if3 .left)) (omega arith)
+
+pub step-spec : {M : Type 1} → statement M
+step-spec =
+    tie.close
+    (tie.spec returns returns-2 returns-3 mul-next cast-next add-next returns-4 returns-5)

@@ -1,0 +1,2 @@
+-- What the contracts of `arguments` are stated in.
+pub mod Numbers

@@ -1,0 +1,2 @@
+-- The law of `host`.
+pub mod Hosting

@@ -1,0 +1,96 @@
+// How much the files of a command may hold. A space has one byte more than any file that is taken, so that a file that is too long is seen.
+ghost use mathlib.Core.Path.{_≡_};
+ghost use Prim.Native.Nat.{_≤_};
+ghost use lib.ListN.{length};
+ghost use Rattle.io.specs.Counts.{Counts};
+
+// A capture of eight super frames has 1,412,608 bytes, and no other file is longer.
+pub type Large = [u8; 1412609];
+
+// The parity of eight super frames has 81,920 bytes.
+pub type Small = [u8; 81921];
+
+pub fn large_space() -> Large
+    ensures { λ r. ⌜ 1412609 ≡ length r ⌝ }
+{
+    [0; 1412609]
+}
+
+pub fn small_space() -> Small
+    ensures { λ r. ⌜ 81921 ≡ length r ⌝ }
+{
+    [0; 81921]
+}
+
+// As many bytes of a space as are wanted, or fewer where it has no room for them.
+pub fn fit(wanted: usize, space: &[u8]) -> usize
+    ensures { λ r. ⌜ Counts r (now (space .entry)) ⌝ }
+{
+    if 1412609 < wanted {
+        return io::count(0, space);
+    }
+    io::count(wanted as isize, space)
+}
+
+// The bytes of information of n super frames; 0 where no capture has so many.
+pub fn information(n: u64) -> usize {
+    if 8 < n {
+        return 0;
+    }
+    152915 * (n as usize)
+}
+
+// The bytes of parity of n super frames.
+pub fn parity(n: u64) -> usize {
+    if 8 < n {
+        return 0;
+    }
+    10240 * (n as usize)
+}
+
+// The bytes of a capture of n super frames.
+pub fn capture(n: u64) -> usize {
+    if 8 < n {
+        return 0;
+    }
+    175616 * (n as usize) + 7680
+}
+
+// The bytes of a window of n places.
+pub fn window(n: u64) -> usize {
+    if gmp::PLACES < n {
+        return 0;
+    }
+    257 * (n as usize) / 2
+}
+
+// The bytes of the groups in the window of n places from f on: "The first j places hold floor(j·C / P) data places." Where the
+// numbers are outside their sets it is 0, and mapping refuses them.
+pub fn groups(c: u64, f: u64, n: u64) -> usize {
+    if gmp::PLACES < c {
+        return 0;
+    }
+    if gmp::PLACES < n {
+        return 0;
+    }
+    if gmp::PLACES < f {
+        return 0;
+    }
+    if f < 1 {
+        return 0;
+    }
+    let to = places_before(f + n, c);
+    let from = places_before(f, c);
+    if to < from {
+        return 0;
+    }
+    ((257 * (to - from) + 1) / 2) as usize
+}
+
+// How many of the places before j hold data.
+fn places_before(j: u64, c: u64) -> u64
+    requires { ⌜ (1 ≤ j) × (j ≤ 20440) × (c ≤ 10220) ⌝ }
+    ensures { λ r. ⌜ r ≤ 30000 ⌝ }
+{
+    (j - 1) * c / gmp::PLACES
+}
