@@ -9,10 +9,6 @@ use Rattle.answer.specs.declared.Answer.{Answer}
 pub only-outcome : {A B : Type 0} {says : A} {leaves : B} {r r′ : A} {out out′ : B} → Outcome says leaves r out → Outcome says leaves r′ out′ → (r ≡ r′) × (out ≡ out′)
 only-outcome p q = (p .told ∙ sym (q .told), p .kept ∙ sym (q .kept))
 
--- the same of a function that writes to nothing
-pub only-answer : {A : Type 0} {says r r′ : A} → r ≡ says → r′ ≡ says → r ≡ r′
-only-answer p q = p ∙ sym q
-
 pub written-done : {B : Type 0} (a : Answer) (new old : B) → a .number ≡ allDone → written a new old ≡ new
 unfolding written
 written-done a new old h = rw (eq-eqb (a .number) allDone h)
@@ -29,5 +25,3 @@ meets-done {B} {says} {r} {new} {out} old e h p =
 pub meets-refused : {B : Type 0} {says r : Answer} {old : B} (new : B) → r ≡ says → (r .number ≡ allDone → ⊥) → Outcome says (written says new old) r old
 meets-refused {B} {says} {r} {old} new e h =
     record { told = e; kept = sym (written-refused says new old (λ z. h (ap (λ (x : Answer). x .number) e ∙ z))) }
-
-pub ruleset meets = (meets-done, meets-refused)

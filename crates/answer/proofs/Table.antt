@@ -1,6 +1,6 @@
 -- The laws of the table of numbers: which row answers, in both directions, and how a chain of tests meets it. Assumes nothing.
 use Prim.Native.Nat.{ℕ, zero, suc, _+_, _≤_, _<_}
-use mathlib.Core.Bool.{Bool, true, false, cond, _&&_, _||_}
+use mathlib.Core.Bool.{Bool, true, false, cond, not, _&&_, _||_}
 use mathlib.Core.Path.{_≡_, refl, sym, ap, _∙_}
 use mathlib.Core.List.{List, [], _∷_}
 use mathlib.Core.Logic.{_⊎_, inl, inr, ⊎-elim}
@@ -11,23 +11,11 @@ use borrow.Author.Tests.{ltb-true, ltb-false, eq-eqb, ne-eqb, lt-ltb, le-ltb}
 use lib.Dec.{ltb, eqb}
 use lib.ListN.{length}
 use Rattle.bits.specs.Loops.{first}
+use Rattle.bits.proofs.Common.{clash, and-left, and-right}
 use Rattle.bits.proofs.LoopLaws.{First, first-holds, first-is, first-none}
 use Rattle.answer.specs.Numbers.{allDone}
 use Rattle.answer.specs.Rows.{Row, done, refused, answerOf, whole, bufferPlace, faultAt, buffers, HoldsAt, Applies, NotAfter, number, place, Least, rising}
 use Rattle.answer.specs.declared.Answer.{Answer}
-
--- ---- small laws of tests
-
-pub clash : {b : Bool} → b ≡ true → b ≡ false → ⊥
-clash p q = let z : _≡_ {A = ℕ} 0 1 = cc in omega arith
-
-pub and-left : (a b : Bool) → a && b ≡ true → a ≡ true
-and-left true b e = refl
-and-left false b e = e
-
-pub and-right : (a b : Bool) → a && b ≡ true → b ≡ true
-and-right true b e = e
-and-right false b e = absurd (clash e refl)
 
 -- ---- which row answers
 
@@ -193,6 +181,11 @@ pub row-buffers : (k : ℕ) (bs : List Bool) (rows : List Row) (c : ℕ) → ans
 row-buffers k bs rows c = faults k (suc (length bs)) bs 1 rows c (omega arith)
 
 -- a test that refuses by a number other than 0 was passed where the answer is done
-pub guard : (t : Bool) (k p : ℕ) (next : Answer) → 0 < k → (cond t (refused k p) next) .number ≡ allDone → (t ≡ false) × (next .number ≡ allDone)
-guard true k p next h e = absurd (omega arith)
-guard false k p next h e = (refl, e)
+pub guard : (t : Bool) (k p : ℕ) (next : Answer) → (cond t (refused (suc k) p) next) .number ≡ allDone → (t ≡ false) × (next .number ≡ allDone)
+guard true k p next e = absurd (omega arith)
+guard false k p next e = (refl, e)
+
+-- two tests one after the other are one
+pub two-tests : {A : Type 0} (a b : Bool) (x y : A) → cond (not (a && b)) x y ≡ cond (not a) x (cond (not b) x y)
+two-tests true b x y = refl
+two-tests false b x y = refl

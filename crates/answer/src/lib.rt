@@ -2,6 +2,7 @@
 ghost use mathlib.Core.Path.{_≡_};
 ghost use Rattle.answer.specs.Rows.{done, refused, bufferPlace};
 
+#[repr(C)]
 pub struct Answer {
     pub number: u64,
     pub place: u64,

@@ -1,7 +1,8 @@
--- Small laws that several crates cite: one answer only, a number below a bound or not, two functions that one test finds equal, and an xor that
--- is zero. Assumes nothing.
+-- Small laws that several crates cite: one answer only, tests that hold together, a number below a bound or not, two functions that one test
+-- finds equal, and an xor that is zero. Assumes nothing.
 use Prim.Native.Nat.{ℕ, _<_, _≤_}
-use mathlib.Core.Path.{_≡_, sym, ap, _∙_}
+use mathlib.Core.Bool.{Bool, true, false, _&&_}
+use mathlib.Core.Path.{_≡_, refl, sym, ap, _∙_}
 use native.Mathlib.Decide.{decLt}
 use native.Mathlib.Omega.{arith}
 use lib.Bits.{bitXor, xor-zero-l}
@@ -12,6 +13,19 @@ use Rattle.bits.proofs.Xor.{xor-cancel}
 -- a contract that is an equation with a definition has one answer
 pub only : {A : Type 0} {x y e : A} → x ≡ e → y ≡ e → x ≡ y
 only p q = p ∙ sym q
+
+-- a test does not come out both ways
+pub clash : {b : Bool} → b ≡ true → b ≡ false → ⊥
+clash p q = let z : _≡_ {A = ℕ} 0 1 = cc in omega arith
+
+-- two tests that hold together
+pub and-left : (a b : Bool) → a && b ≡ true → a ≡ true
+and-left true b e = refl
+and-left false b e = e
+
+pub and-right : (a b : Bool) → a && b ≡ true → b ≡ true
+and-right true b e = e
+and-right false b e = absurd (clash e refl)
 
 -- a number is below n, or not
 bound-at : {A : Type 0} (n i : ℕ) → (i < n → A) → (n ≤ i → A) → Dec (i < n) → A

@@ -6,5 +6,5 @@ pub mod Xor
 pub mod Tables
 pub mod LoopLaws
 pub mod Counting
-pub mod OneAnswer
+pub mod Unique
 pub mod Common

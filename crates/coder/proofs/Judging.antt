@@ -3,25 +3,19 @@ use Prim.Native.Nat.{ℕ, _<_}
 use mathlib.Core.Bool.{Bool, true, false, cond, not, _&&_}
 use mathlib.Core.Path.{_≡_, refl, sym, ap, _∙_}
 use mathlib.Core.List.{List, [], _∷_}
-use native.Mathlib.Omega.{arith}
 use borrow.Author.Tests.{not-false, eqb-true}
 use lib.Dec.{eqb}
 use lib.ListN.{length}
 use Rattle.answer.specs.Numbers.{allDone, outsideSet, wrongLength}
 use Rattle.answer.specs.Rows.{Row, done, refused, answerOf, whole, bufferPlace, buffers}
 use Rattle.answer.specs.declared.Answer.{Answer}
-use Rattle.answer.proofs.Table.{row-whole, row-buffers, inTurn, guard}
+use Rattle.answer.proofs.Table.{row-whole, row-buffers, inTurn, guard, two-tests}
 use Rattle.line.specs.Sizes.{infoLength, parityLength, captureLength, words}
 use Rattle.line.specs.Captures.{superAllowed, wrong}
 use Rattle.line.specs.Fec.{mbasAllowed}
 use Rattle.line.proofs.CaptureLaws.{super-frames}
 use Rattle.coder.specs.Code.{codeRows, codeAnswer}
 use Rattle.coder.specs.Parts.{Granted, judged}
-
--- two tests one after the other are one
-pub two-tests : {A : Type 0} (a b : Bool) (x y : A) → cond (not (a && b)) x y ≡ cond (not a) x (cond (not b) x y)
-two-tests true b x y = refl
-two-tests false b x y = refl
 
 pub judged-is : (N m0 : ℕ) (info par cap : List ℕ) → judged N m0 (length info) (length par) (length cap) ≡ codeAnswer N m0 info par cap
 unfolding judged codeAnswer codeRows wrong inTurn answerOf
@@ -40,11 +34,11 @@ pub record Accepted (N info par cap : ℕ) : Type 0 where
 pub accepted : (N m0 info par cap : ℕ) → judged N m0 info par cap .number ≡ allDone → Accepted N info par cap
 unfolding judged
 accepted N m0 info par cap e =
-    let g₁ = guard (not (superAllowed N)) outsideSet 0 _ (omega arith) e in
-    let g₂ = guard (not (mbasAllowed m0)) outsideSet 0 _ (omega arith) (g₁ .1) in
-    let g₃ = guard (not (eqb info (infoLength N))) wrongLength (bufferPlace 1) _ (omega arith) (g₂ .1) in
-    let g₄ = guard (not (eqb par (parityLength N))) wrongLength (bufferPlace 2) _ (omega arith) (g₃ .1) in
-    let g₅ = guard (not (eqb cap (captureLength N))) wrongLength (bufferPlace 3) _ (omega arith) (g₄ .1) in
+    let g₁ = guard (not (superAllowed N)) 0 0 _ e in
+    let g₂ = guard (not (mbasAllowed m0)) 0 0 _ (g₁ .1) in
+    let g₃ = guard (not (eqb info (infoLength N))) 1 (bufferPlace 1) _ (g₂ .1) in
+    let g₄ = guard (not (eqb par (parityLength N))) 1 (bufferPlace 2) _ (g₃ .1) in
+    let g₅ = guard (not (eqb cap (captureLength N))) 1 (bufferPlace 3) _ (g₄ .1) in
     record {
       few = super-frames N (not-false (superAllowed N) (g₁ .0)) .few;
       information = eqb-true info (infoLength N) (not-false (eqb info (infoLength N)) (g₃ .0));

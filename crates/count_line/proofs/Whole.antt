@@ -1,8 +1,8 @@
 -- The input read byte by byte gives the count of its first line; read in parts it gives the same. Assumes nothing.
-use Prim.Native.Nat.{ℕ, zero, suc, _+_, _-_, _*_, _≤_, _<_, min}
-use mathlib.Core.Bool.{Bool, true, false, cond, not, _&&_, _||_}
+use Prim.Native.Nat.{ℕ, zero, suc, _+_, _-_, _≤_, _<_, min}
+use mathlib.Core.Bool.{Bool, true, false, cond, not, _||_}
 use mathlib.Core.Path.{_≡_, refl, sym, ap, ap₂, _∙_}
-use mathlib.Core.List.{List, [], _∷_, _++_}
+use mathlib.Core.List.{List, [], _++_}
 use mathlib.Core.Logic.{⊎-elim}
 use native.Mathlib.Nat.{add-zero, add-suc, eq-or-lt-of-le}
 use native.Mathlib.Omega.{arith}
@@ -10,14 +10,14 @@ use borrow.Author.Tests.{ltb-true, ltb-false, lt-ltb, le-ltb}
 use lib.Dec.{ltb, eqb, eqb·suc-zero}
 use lib.ListN.{length, getD, length-append, List·getD-append}
 use lib.Seq.{getD-append-add}
-use Rattle.bits.specs.Loops.{upto, first}
+use Rattle.bits.specs.Loops.{upto}
 use Rattle.bits.proofs.LoopLaws.{First, first-holds}
 use Rattle.answer.specs.Numbers.{outsideSet}
-use Rattle.answer.specs.Rows.{done, refused, answerOf, whole}
+use Rattle.answer.specs.Rows.{done, refused, answerOf}
 use Rattle.answer.specs.declared.Answer.{Answer}
 use Rattle.answer.proofs.Table.{row-whole}
 use Rattle.gmp.specs.Places.{places}
-use Rattle.count_line.specs.Lines.{lineFeed, lineLength, digitAt, allDigits, decimal, noCount, countOf}
+use Rattle.count_line.specs.Lines.{lineFeed, lineLength, allDigits, decimal, noCount, countOf}
 use Rattle.count_line.specs.Reading.{tooMuch, nextValue, startOf, stepOf, stepAt, moreOf, soFar}
 use Rattle.count_line.specs.declared.Line.{Line}
 use Rattle.count_line.proofs.Stepping.{so-far-chain}

@@ -1,16 +1,16 @@
 -- Each public contract has one answer, for any table and any bytes: two results that meet it are the same. `Post` is the contract's own
 -- `ensures`, so a weaker contract would not pass here. Assumes nothing.
 use mathlib.Core.Path.{_≡_}
-use Rattle.bits.proofs.OneAnswer.{one-answer}
+use Rattle.bits.proofs.Common.{only}
 use Rattle.crc.proofs.table.Reads as table
 use Rattle.crc.proofs.remainder.Reads as remainder
 use Rattle.crc.proofs.crc.Reads as crc
 
 pub one-table : (κs : _) (a : _) (x y : _) (s t : _) → table.Post κs a x s → table.Post κs a y t → x ≡ y
-one-table κs a x y s t p q = one-answer p q
+one-table κs a x y s t p q = only p q
 
 pub one-remainder : (κs : _) (a : _) (x y : _) (s t : _) → remainder.Post κs a x s → remainder.Post κs a y t → x ≡ y
-one-remainder κs a x y s t p q = one-answer p q
+one-remainder κs a x y s t p q = only p q
 
 pub one-crc : (κs : _) (a : _) (x y : _) (s t : _) → crc.Post κs a x s → crc.Post κs a y t → x ≡ y
-one-crc κs a x y s t p q = one-answer p q
+one-crc κs a x y s t p q = only p q

@@ -1,25 +1,25 @@
 -- The tests that `edit` makes in turn are the rows of its table. Assumes nothing.
-use Prim.Native.Nat.{ℕ, suc, _*_, _%_, _≤_, _<_}
+use Prim.Native.Nat.{ℕ, suc, _%_, _≤_, _<_}
 use mathlib.Core.Bool.{Bool, true, false, cond, not, _&&_}
 use mathlib.Core.Path.{_≡_, refl, sym, ap, ap₂, _∙_}
-use mathlib.Core.List.{List, [], _∷_, _++_}
+use mathlib.Core.List.{List, [], _∷_}
 use native.Mathlib.Omega.{arith}
-use borrow.Author.Tests.{ltb-true, ltb-false, leb-false, eqb-true, lt-ltb, le-ltb, le-leb, lt-leb, eq-eqb, not-false, leb-true}
+use borrow.Author.Tests.{ltb-true, ltb-false, leb-false, eqb-true, lt-ltb, le-ltb, le-leb, lt-leb, eq-eqb, not-false}
 use lib.Dec.{ltb, leb, eqb}
-use lib.ListN.{length, getD, drop}
+use lib.ListN.{length, getD}
 use Rattle.bits.specs.Bits.{num, bitAt}
 use Rattle.bits.specs.Loops.{first, count}
 use Rattle.bits.proofs.Numbers.{num-back}
 use Rattle.bits.proofs.Packing.{bitOf-lt, num-bitOf}
 use Rattle.answer.specs.Numbers.{allDone, outsideSet, wrongLength, spareBit, listedFails}
-use Rattle.answer.specs.Rows.{Row, done, refused, answerOf, whole, buffers, bufferPlace}
-use Rattle.answer.specs.Outcomes.{Outcome, written}
+use Rattle.answer.specs.Rows.{Row, done, refused, answerOf, buffers, bufferPlace}
+use Rattle.answer.specs.Outcomes.{Outcome}
 use Rattle.answer.specs.declared.Answer.{Answer}
-use Rattle.answer.proofs.Table.{inTurn, row-whole, row-buffers, row-found}
+use Rattle.answer.proofs.Table.{inTurn, row-whole, row-buffers, row-found, guard}
 use Rattle.answer.proofs.Meets.{meets-done, meets-refused}
 use Rattle.line.specs.Sizes.{parityBytes, captureLength, words}
 use Rattle.line.specs.Captures.{superAllowed, wrong}
-use Rattle.editor.specs.Edit.{blocksOf, blockBytes, listLength, listed, listOf, editedCapture, spareSet, fails, editRows, editAnswer, editLeaves}
+use Rattle.editor.specs.Edit.{blocksOf, blockBytes, listLength, listed, spareSet, fails, editRows, editAnswer, editLeaves}
 use Rattle.editor.specs.Parts.{judged, Accepted, Passing}
 use Rattle.editor.proofs.Passes.{passing-capture, passing-list}
 
@@ -110,11 +110,6 @@ judged-answer N b bits parity cap list r e n =
 
 zero-not : (k : ℕ) → 0 ≡ suc k → ⊥
 zero-not k e = omega arith
-
--- a test that refuses with a number above 0 was passed
-guard : (t : Bool) (k p : ℕ) (y : Answer) → cond t (refused (suc k) p) y .number ≡ allDone → (t ≡ false) × (y .number ≡ allDone)
-guard true k p y e = absurd (omega arith)
-guard false k p y e = (refl, e)
 
 -- what the judgement shows where it does not refuse
 pub record Fitting (N b bits parity cap list : ℕ) : Type 0 where
@@ -211,7 +206,7 @@ module _ (N b : ℕ) (bits parity cap list : List ℕ) where
 
   pub refuses : (r : Answer) → r ≡ editAnswer N b bits parity cap list → (r .number ≡ allDone → ⊥) → Outcome (editAnswer N b bits parity cap list) (editLeaves N b bits parity cap list) r (cap, list)
   unfolding editLeaves
-  refuses r e n = meets-refused (editedCapture N b bits parity cap, listOf N b ++ drop (count (listed N b) (words N)) list) e n
+  refuses r e n = meets-refused _ e n
 
   pub edits : (r : Answer) (cap′ list′ : List ℕ) (c : ℕ) → r ≡ editAnswer N b bits parity cap list → r .number ≡ allDone → Passing N b bits parity cap list (words N) cap′ list′ c
       → Outcome (editAnswer N b bits parity cap list) (editLeaves N b bits parity cap list) r (cap′, list′)

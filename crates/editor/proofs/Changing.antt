@@ -1,17 +1,16 @@
 -- The bits that an edit reads, the bits that change, and what they leave: the change of the CRC. Assumes nothing.
-use Prim.Native.Nat.{ℕ, _+_, _-_, _*_, _/_, _%_, _^_, _≤_, _<_}
-use mathlib.Core.Bool.{Bool, true, false, cond}
-use mathlib.Core.Path.{_≡_, refl, sym, ap, ap₂, _∙_}
+use Prim.Native.Nat.{ℕ, _+_, _-_, _*_, _/_, _%_, _≤_, _<_}
+use mathlib.Core.Bool.{true, false}
+use mathlib.Core.Path.{_≡_, sym, ap, _∙_}
 use mathlib.Core.List.{List}
 use native.Mathlib.Omega.{arith}
 use lib.Dec.{lit<}
-use lib.ListN.{length, getD}
 use lib.Pow.{pow-pos}
 use Rattle.bits.specs.Bits.{num, digit, bitOf, bitAt, byteOf, pack, Bits, Bytes}
 use Rattle.bits.proofs.Common.{by-bound}
 use Rattle.bits.proofs.Lists.{getD-tabulate, getD-past}
 use Rattle.bits.proofs.Numbers.{num-zero, num-lt}
-use Rattle.bits.proofs.Packing.{bitOf-lt, bitOf-at, bitOf-packs, length-packs}
+use Rattle.bits.proofs.Packing.{bitOf-at, bitOf-packs, length-packs}
 use Rattle.crc.specs.Crc.{remFrom, remOf}
 use Rattle.crc.specs.ByBytes.{entries, remBy}
 use Rattle.crc.proofs.Linear.{rem-ext}
@@ -24,7 +23,7 @@ use Rattle.line.specs.Slots.{slotOf}
 use Rattle.line.specs.Words.{symbolPlace, wordIn, elementFrom, superIn, fecIn}
 use Rattle.line.proofs.WordLaws.{word-symbol}
 use Rattle.editor.specs.Edit.{blockFrom, inBlock, replaced, change, crcChange, elementFec, elementLocal}
-use Rattle.editor.proofs.Touching.{block-in, block-before, block-past}
+use Rattle.editor.proofs.Touching.{block-before, block-past}
 
 -- ---- what is read
 

@@ -6,3 +6,5 @@ pub mod Remaking
 pub mod Changing
 pub mod Passes
 pub mod Answers
+pub mod Promises
+pub mod Unique

@@ -1,23 +1,22 @@
 -- Which words are listed: what `listed` means, how many there are, and the list of them. Assumes nothing.
 use Prim.Native.Nat.{ℕ, suc, _+_, _-_, _*_, _/_, _%_, _≤_, _<_}
-use mathlib.Core.Bool.{Bool, true, false, cond, not, _&&_}
-use mathlib.Core.Path.{_≡_, refl, sym, ap, ap₂, _∙_}
+use mathlib.Core.Bool.{true, false, cond, not, _&&_}
+use mathlib.Core.Path.{_≡_, sym, ap, _∙_}
 use mathlib.Core.List.{List}
 use native.Mathlib.Decide.{decLt}
 use native.Mathlib.Omega.{arith}
-use borrow.Author.Tests.{ltb-true, ltb-false, leb-true, leb-false, eqb-true, eq-eqb, ne-eqb, lt-ltb, le-ltb, le-leb, lt-leb, not-true}
-use lib.Dec.{ltb, leb, eqb}
-use lib.ListN.{length, getD}
+use borrow.Author.Tests.{leb-false, eqb-true, eq-eqb, ne-eqb, lt-ltb, le-ltb, le-leb, lt-leb, not-true}
+use lib.Dec.{ltb, eqb}
 use Rattle.bits.specs.Loops.{count}
-use Rattle.answer.proofs.Table.{clash, and-left, and-right}
+use Rattle.bits.proofs.Common.{clash, and-left, and-right}
 use Rattle.hamming.specs.Code.{checksOf}
 use Rattle.line.specs.Words.{wordIn}
-use Rattle.line.specs.Sizes.{clientBlocks, fecBlocks, elementBits, superElements, fecElements, infoElements, words}
+use Rattle.line.specs.Sizes.{fecBlocks, elementBits, superElements, fecElements, infoElements}
 use Rattle.line.specs.Slots.{slotOf, elementIn, holds}
-use Rattle.line.proofs.SlotLaws.{held, element-slot, slot-lt, slot-once, holds-slot}
-use Rattle.editor.specs.Edit.{blocksOf, fecOf, blockFrom, touched, elementFec, elementLocal, isPad, touches, listed, picked, listOf, fails}
-use Rattle.editor.proofs.Touching.{Touch, touches-at, touches-some, element-tail, element-block, element-before, element-past}
-use Rattle.editor.proofs.Picking.{length-picked, Ranked, picked-entry, picked-rises, picked-room, picked-has, In, count-few, count-many}
+use Rattle.line.proofs.SlotLaws.{held}
+use Rattle.editor.specs.Edit.{fecOf, blockFrom, elementFec, elementLocal, isPad, touches, listed, fails}
+use Rattle.editor.proofs.Touching.{Touch, touches-at, touches-some, element-before, element-past}
+use Rattle.editor.proofs.Picking.{In, count-few}
 
 -- ---- what it means: the word holds element e of the client block's FEC block, and one of its bits is touched
 
@@ -94,20 +93,20 @@ fails-listed N b cap w h = rw h
 
 -- the first element of the client block's FEC block, and the k-th of the elements that hold a touched bit: first the last 138, then the
 -- client block's own
-abbrev start : ℕ → ℕ
+abbrev pub start : ℕ → ℕ
 start b = superElements * (fecOf b / fecBlocks) + fecElements * (fecOf b % fecBlocks)
 
-unfoldable own : ℕ → ℕ → ℕ
+unfoldable pub own : ℕ → ℕ → ℕ
 own b k = cond (ltb k 138) (infoElements + k) (blockFrom b / elementBits + (k - 138))
 
-unfoldable slotNo : ℕ → ℕ → ℕ
+unfoldable pub slotNo : ℕ → ℕ → ℕ
 slotNo b k = slotOf (start b + own b k)
 
-own-tail : (b k : ℕ) → k < 138 → own b k ≡ infoElements + k
+pub own-tail : (b k : ℕ) → k < 138 → own b k ≡ infoElements + k
 unfolding own
 own-tail b k h = rw (lt-ltb k 138 h)
 
-own-block : (b j : ℕ) → own b (138 + j) ≡ blockFrom b / elementBits + j
+pub own-block : (b j : ℕ) → own b (138 + j) ≡ blockFrom b / elementBits + j
 unfolding own
 own-block b j = let e : 138 + j - 138 ≡ j = omega arith in rw (le-ltb (138 + j) 138 (omega arith), e)
 
@@ -141,7 +140,7 @@ unfolding elementLocal
 local-lt e = omega arith
 
 -- so a listed word is the slot of one of those
-listed-slot : (N b w : ℕ) → listed N b w ≡ true → In (slotNo b) (listedCount b) w
+pub listed-slot : (N b w : ℕ) → listed N b w ≡ true → In (slotNo b) (listedCount b) w
 unfolding slotNo
 listed-slot N b w h =
     let l = listed-holding N b w h in

@@ -1,10 +1,10 @@
 -- A word put into a capture, and the pass that makes the listed words anew: where it starts, a turn, where it ends. Assumes nothing.
-use Prim.Native.Nat.{ℕ, zero, suc, _+_, _-_, _*_, _≤_, _<_}
+use Prim.Native.Nat.{ℕ, zero, suc, _+_, _≤_, _<_}
 use mathlib.Core.Bool.{Bool, true, false, cond}
 use mathlib.Core.Path.{_≡_, refl, sym, ap, ap₂, _∙_}
-use mathlib.Core.List.{List, [], _∷_, _++_}
+use mathlib.Core.List.{List, _++_}
 use mathlib.Core.Logic.{⊎-elim}
-use native.Mathlib.Nat.{not-suc-le-zero, le-of-suc-le-suc, eq-or-lt-of-le}
+use native.Mathlib.Nat.{not-suc-le-zero, eq-or-lt-of-le}
 use native.Mathlib.Numerals.{add-one}
 use native.Mathlib.Decide.{ℕ-discrete}
 use native.Mathlib.Omega.{arith}
@@ -12,7 +12,6 @@ use borrow.Author.Tests.{ltb-true, ltb-false, lt-ltb, le-ltb}
 use lib.Dec.{ltb}
 use lib.ListN.{length, getD, set, drop, length-set, length-append, length-drop}
 use lib.Seq.{getD-set-same, getD-set-other}
-use Rattle.bits.specs.Bits.{tabulate}
 use Rattle.bits.specs.Loops.{upto, count}
 use Rattle.bits.proofs.Lists.{tabulate-ext, is-table}
 use Rattle.hamming.proofs.Words.{coded-long}
@@ -23,7 +22,7 @@ use Rattle.line.specs.Words.{symbolPlace, wordAt, symbolAt, laid, symbolOf, wor
 use Rattle.line.proofs.WordLaws.{word-at, symbol-at, place-lt, length-laid, length-word, word-laid, laid-ext, laid-words}
 use Rattle.editor.specs.Edit.{listLength, fecOf, crcChange, editedFec, listed, picked, listOf, editedWord, editedCapture}
 use Rattle.editor.specs.Parts.{remade, putSymbol, putWord, mixed, listing, Passing, Turned}
-use Rattle.editor.proofs.Picking.{length-picked, picked-yes, picked-no, picked-set, count-yes, count-no}
+use Rattle.editor.proofs.Picking.{length-picked, picked-no, picked-set, count-yes, count-no}
 use Rattle.editor.proofs.Listing.{listed-few}
 use Rattle.editor.proofs.Remaking.{word-made}
 

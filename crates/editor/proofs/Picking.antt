@@ -1,19 +1,19 @@
 -- The laws of `picked`, and two laws of `count`: how many a test picks, from a numbering of those that it picks. Assumes nothing.
 use Prim.Native.Nat.{ℕ, zero, suc, _+_, _-_, _≤_, _<_}
 use mathlib.Core.Bool.{Bool, true, false, cond, not, _&&_}
-use mathlib.Core.Path.{_≡_, refl, sym, ap, _∙_, subst}
+use mathlib.Core.Path.{_≡_, refl, sym, ap, _∙_}
 use mathlib.Core.List.{List, [], _∷_, _++_, append-nil, append-assoc}
 use mathlib.Core.Logic.{⊎-elim}
 use native.Mathlib.Nat.{not-suc-le-zero, le-of-suc-le-suc, eq-or-lt-of-le}
 use native.Mathlib.Decide.{ℕ-discrete, decLt}
 use native.Mathlib.Omega.{arith}
-use borrow.Author.Tests.{eqb-true, eq-eqb, ne-eqb}
+use borrow.Author.Tests.{eq-eqb, ne-eqb}
 use lib.Dec.{eqb}
 use lib.ListN.{length, getD, set, drop, length-append, List·getD-append}
 use lib.Seq.{drop-cons, set-at, getD-at}
 use Rattle.bits.specs.Loops.{count}
 use Rattle.bits.proofs.Counting.{count-ext, count-add}
-use Rattle.answer.proofs.Table.{clash, and-left, and-right}
+use Rattle.bits.proofs.Common.{clash, and-left}
 use Rattle.editor.specs.Edit.{picked}
 
 -- ---- entries

@@ -5,16 +5,14 @@ use mathlib.Core.Path.{_≡_, refl, sym, ap, ap₂, _∙_}
 use mathlib.Core.List.{List}
 use native.Mathlib.Omega.{arith}
 use borrow.Author.Tests.{eq-eqb}
-use lib.Dec.{eqb}
 use Rattle.bits.specs.Bits.{digit, bitAt, pack, from, added, Bits}
 use Rattle.bits.proofs.Packing.{bitOf-lt, bitOf-packs, packs-ext}
 use Rattle.scrambler.specs.Scrambler.{o, frameBytes}
-use Rattle.hamming.specs.Code.{coded, wordOf}
+use Rattle.hamming.specs.Code.{wordOf}
 use Rattle.hamming.proofs.Words.{coded-ext}
-use Rattle.line.specs.Sizes.{infoBits, crcBits, mbasBits, parityBits, mbasFrom, parityFrom, fecBits, fecBlocks, superBits, elementBits, superElements, fecElements, infoElements}
-use Rattle.line.specs.Fec.{fields}
+use Rattle.line.specs.Sizes.{infoBits, crcBits, mbasBits, mbasFrom, parityFrom, fecBits, fecBlocks, elementBits, superElements, fecElements, infoElements}
 use Rattle.line.specs.Frames.{superOf, elementOf}
-use Rattle.line.specs.Slots.{slotOf, elementIn, slotBit}
+use Rattle.line.specs.Slots.{elementIn, slotBit}
 use Rattle.line.specs.Words.{wordIn, wordsOf, fecIn}
 use Rattle.line.proofs.FecLaws.{fields-info, fields-crc, fields-mbas, fields-parity, fields-bits, fields-all}
 use Rattle.line.proofs.FrameLaws.{element-fec}
@@ -22,7 +20,7 @@ use Rattle.line.proofs.SlotLaws.{held, held-bit}
 use Rattle.editor.specs.Edit.{fecOf, inBlock, blockFrom, replaced, crcChange, newCrc, editedBits, editedFec, elementFec, elementLocal, listed, editedWord}
 use Rattle.editor.specs.Parts.{newInfoBit, newBit, newElement, parityElement, remade}
 use Rattle.editor.proofs.Changing.{sequence-bit, received-at}
-use Rattle.editor.proofs.Listing.{Holding, listed-holding, local-lt}
+use Rattle.editor.proofs.Listing.{listed-holding, local-lt}
 
 -- ---- bits
 

@@ -1,14 +1,14 @@
 -- Which bits of an FEC block an edit touches, and which elements hold one of them. Assumes nothing.
-use Prim.Native.Nat.{ℕ, zero, suc, _+_, _-_, _*_, _/_, _%_, _≤_, _<_}
-use mathlib.Core.Bool.{Bool, true, false, cond, _&&_, _||_, or-true}
+use Prim.Native.Nat.{ℕ, zero, suc, _+_, _-_, _*_, _/_, _≤_, _<_}
+use mathlib.Core.Bool.{Bool, true, false, _&&_, _||_}
 use mathlib.Core.Path.{_≡_, refl, sym, ap, _∙_}
 use mathlib.Core.Logic.{⊎-elim}
 use native.Mathlib.Nat.{not-suc-le-zero, eq-or-lt-of-le, le-of-suc-le-suc}
 use native.Mathlib.Omega.{arith}
-use borrow.Author.Tests.{ltb-true, ltb-false, leb-true, leb-false, lt-ltb, le-ltb, le-leb, lt-leb}
-use lib.Dec.{ltb, leb, eqb}
-use Rattle.answer.proofs.Table.{clash, and-left, and-right}
-use Rattle.line.specs.Sizes.{blockBits, infoBits, mbasFrom, parityFrom, elementBits, fecElements, infoElements}
+use borrow.Author.Tests.{leb-true, leb-false, lt-ltb, le-ltb, le-leb, lt-leb}
+use lib.Dec.{ltb, leb}
+use Rattle.bits.proofs.Common.{clash}
+use Rattle.line.specs.Sizes.{blockBits, infoBits, mbasFrom, parityFrom, elementBits, infoElements}
 use Rattle.editor.specs.Edit.{blockFrom, inBlock, touched, touches}
 
 -- ---- the client block's own bits

@@ -3,7 +3,7 @@ use answer::Answer;
 ghost use mathlib.Core.Path.{_≡_};
 ghost use mathlib.Core.Bool.{not};
 ghost use lib.Dec.{eqb};
-ghost use Prim.Native.Nat.{_+_, _*_, _%_, _≤_, _<_};
+ghost use Prim.Native.Nat.{ℕ, _+_, _*_, _%_, _≤_, _<_};
 ghost use lib.ListN.{length};
 ghost use Rattle.bits.specs.Bits.{bitAt, byteOf, pack};
 ghost use Rattle.bits.specs.Loops.{first};
@@ -153,12 +153,20 @@ fn add(x: u8, y: u8) -> u8
     (x % 2 + y % 2) % 2
 }
 
+// Where symbol k of word w stands.
+fn place(w: usize, k: usize) -> usize
+    requires { ⌜ (w < 100000) × (k < 16) ⌝ }
+    ensures { λ r. ⌜ r ≡ symbolPlace w k ⌝ }
+{
+    128 * (w / 8) + 8 * k + w % 8
+}
+
 // Bit j of word w of a capture.
 fn word_bit(capture: &[u8], w: usize, j: usize) -> u8
     requires { ⌜ (w < 100000) × (j < 128) ⌝ }
     ensures { λ r. ⌜ r ≡ bitAt (wordIn (now (capture .entry)) w) j ⌝ }
 {
-    bits::bit_at(capture, 8 * (128 * (w / 8) + 8 * (j / 8) + w % 8) + j % 8)
+    bits::bit_at(capture, 8 * place(w, j / 8) + j % 8)
 }
 
 // The slot of element e.
@@ -239,17 +247,17 @@ fn crc_change(b: usize, bits: &[u8], capture: &[u8], scr: &[u8; 163268]) -> u32
 
 // ---- a word made anew
 
-// The new bit at place p of the information and place k of the super frame, where x was received.
-fn new_info_bit(b: usize, bits: &[u8], scr: &[u8; 163268], p: usize, k: usize, x: u8) -> u8
+// The new bit at place p of the information and place k of the super frame, where `kept` was received.
+fn new_info_bit(b: usize, bits: &[u8], scr: &[u8; 163268], p: usize, k: usize, kept: u8) -> u8
     requires { ⌜ (now scr ≡ pack frameBytes o) × (k < superBits) ⌝ }
-    ensures { λ r. ⌜ r ≡ newInfoBit b (now (bits .entry)) p k x ⌝ }
+    ensures { λ r. ⌜ r ≡ newInfoBit b (now (bits .entry)) p k kept ⌝ }
 {
     let from = 257 * (b % 952);
     if p < from {
-        return x;
+        return kept;
     }
     if from + 257 <= p {
-        return x;
+        return kept;
     }
     add(bits::bit_at(bits, p - from), bits::bit_at(scr, k))
 }
@@ -384,11 +392,11 @@ fn new_word(
 
 // Puts the sixteen symbols of word w to their places.
 fn put_word(capture: &mut [u8], w: usize, v: [u8; 16])
-    requires { ⌜ (w < 100000) × (symbolPlace w 15 < length (now capture)) ⌝ }
+    requires { ⌜ (w < 100000) × ((k : ℕ) → k < 16 → symbolPlace w k < length (now capture)) ⌝ }
     ensures { λ _. ⌜ now (capture .exit) ≡ putWord (now (capture .entry)) w v ⌝ }
 {
     for k in 0..16 {
-        capture[128 * (w / 8) + 8 * k + w % 8] = v[k];
+        capture[place(w, k)] = v[k];
     }
 }
 
@@ -411,17 +419,8 @@ fn turn(
     ensures { λ r. ⌜ Turned n b (now (bits .entry)) (now (parity .entry)) crc w c (now (capture .entry)) (now (list .entry)) (now (capture .exit)) (now (list .exit)) r ⌝ }
 {
     if is_listed(n, b, w) {
-        let v = new_word(
-            b,
-            bits,
-            parity,
-            scr,
-            t,
-            tails,
-            crc,
-            w,
-            line::word_in(capture, w),
-        );
+        let old = line::word_in(capture, w);
+        let v = new_word(b, bits, parity, scr, t, tails, crc, w, old);
         put_word(capture, w, v);
         list[c] = w as u64;
         return c + 1;

@@ -8,7 +8,8 @@ use lib.Dec.{ltb}
 use Rattle.answer.specs.Numbers.{allDone, outsideSet}
 use Rattle.answer.specs.Rows.{done, refused, answerOf}
 use Rattle.answer.specs.declared.Answer.{Answer}
-use Rattle.answer.proofs.Table.{row-whole, clash}
+use Rattle.answer.proofs.Table.{row-whole}
+use Rattle.bits.proofs.Common.{clash}
 use Rattle.gmp.specs.Places.{places, isData, Place}
 use Rattle.gmp.specs.Runs.{lastOfRun, runsFrom, EndsRun}
 use Rattle.gmp.specs.Answers.{outsidePlace, Told, told, runOf, runsOf}

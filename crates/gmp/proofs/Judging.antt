@@ -1,16 +1,16 @@
 -- What the tests of `map` and `unmap` say: each return by the rows of its table, and what a call that is done was asked. Assumes nothing.
-use Prim.Native.Nat.{ℕ, suc, _+_, _-_, _*_, _/_, _%_, _≤_, _<_}
-use mathlib.Core.Bool.{Bool, true, false, cond, not, _||_}
+use Prim.Native.Nat.{ℕ, suc, _+_, _-_, _%_, _≤_, _<_}
+use mathlib.Core.Bool.{Bool, true, false, cond, _||_}
 use mathlib.Core.Path.{_≡_, refl, sym, ap, _∙_}
 use mathlib.Core.List.{List, [], _∷_}
 use native.Mathlib.Omega.{arith}
-use borrow.Author.Tests.{ltb-true, ltb-false, lt-ltb, le-ltb, eqb-true, eqb-false, eq-eqb, ne-eqb, not-false}
+use borrow.Author.Tests.{ltb-true, ltb-false, eqb-true, eqb-false, eq-eqb, ne-eqb, not-false}
 use lib.Dec.{ltb, eqb}
 use lib.ListN.{length}
 use Rattle.answer.specs.Numbers.{allDone, outsideSet, wrongLength, spareBit}
-use Rattle.answer.specs.Rows.{done, refused, answerOf, whole, buffers, bufferPlace}
+use Rattle.answer.specs.Rows.{done, refused, answerOf, buffers, bufferPlace}
 use Rattle.answer.specs.declared.Answer.{Answer}
-use Rattle.answer.proofs.Table.{row-whole, row-buffers, inTurn}
+use Rattle.answer.proofs.Table.{row-whole, row-buffers, inTurn, guard}
 use Rattle.gmp.specs.Places.{places, dataFrom}
 use Rattle.gmp.specs.Windows.{groupBytes, windowBytes, outsideWindow, Window, Stretch, spareSet}
 use Rattle.gmp.specs.Answers.{wrong, mapAnswer, unmapAnswer}
@@ -129,11 +129,6 @@ module _ (c f n l k : ℕ) where
 pub ruleset judged = (window-in, stretch-in, map-outside, map-groups, map-window, map-spare, map-done, unmap-outside, unmap-window, unmap-groups, unmap-done)
 
 -- ---- what a call that is done was asked
-
--- a test that refuses with a number that is not 0 was passed
-guard : (t : Bool) (m p : ℕ) (y : Answer) → (cond t (refused (suc m) p) y) .number ≡ allDone → (t ≡ false) × (y .number ≡ allDone)
-guard true m p y e = absurd (omega arith)
-guard false m p y e = (refl, e)
 
 pub record MapTaken (c f n : ℕ) (g : List ℕ) (l : ℕ) : Type 0 where
   pub numbers : outsideWindow c f n ≡ false

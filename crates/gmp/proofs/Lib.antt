@@ -11,4 +11,5 @@ pub mod Spares
 pub mod Filling
 pub mod Ranks
 pub mod RoundTrip
+pub mod Exactly
 pub mod Unique

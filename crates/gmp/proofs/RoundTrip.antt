@@ -1,6 +1,6 @@
 -- Unmapping what was mapped gives the groups back. Assumes nothing.
 use Prim.Native.Nat.{ℕ, zero, suc, _+_, _-_, _*_, _/_, _%_, _^_, _≤_, _<_}
-use mathlib.Core.Bool.{Bool, true, false, cond, not, _&&_}
+use mathlib.Core.Bool.{Bool, true, false, cond, not}
 use mathlib.Core.Path.{_≡_, refl, sym, ap, _∙_}
 use mathlib.Core.List.{List}
 use native.Mathlib.Nat.{zero-div}
@@ -13,7 +13,6 @@ use Rattle.bits.proofs.Numbers.{digit-num}
 use Rattle.bits.proofs.Packing.{bitOf-lt, bitOf-packs, packs-bitOf, packs-ext, length-packs}
 use Rattle.answer.specs.Numbers.{allDone}
 use Rattle.answer.specs.Rows.{done}
-use Rattle.answer.specs.Outcomes.{written}
 use Rattle.answer.specs.declared.Answer.{Answer}
 use Rattle.answer.proofs.Meets.{written-done}
 use Rattle.gmp.specs.Places.{groupBits, isData, dataFrom}

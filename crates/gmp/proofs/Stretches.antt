@@ -1,15 +1,15 @@
 -- A run is a longest stretch of one kind: what `lastOfRun` and `runsFrom` mean, and that nothing else means it. Assumes nothing.
 use Prim.Native.Nat.{ℕ, zero, suc, _+_, _-_, _≤_, _<_}
-use mathlib.Core.Bool.{Bool, true, false, not, cond, Bool·beq}
+use mathlib.Core.Bool.{Bool, true, false, not, Bool·beq}
 use mathlib.Core.Path.{_≡_, refl, sym, ap, _∙_}
 use mathlib.Core.Logic.{⊎-elim}
-use native.Mathlib.Nat.{add-zero, add-suc, suc-add, add-assoc, eq-or-lt-of-le, lt-of-not-le}
+use native.Mathlib.Nat.{add-zero, add-suc, eq-or-lt-of-le, lt-of-not-le}
 use native.Mathlib.Decide.{decLe}
 use native.Mathlib.Omega.{arith}
 use Rattle.bits.specs.Loops.{first, count}
 use Rattle.bits.proofs.LoopLaws.{First, first-holds, first-is, first-none}
 use Rattle.bits.proofs.Counting.{count-ext, count-add, count-le}
-use Rattle.answer.proofs.Table.{clash}
+use Rattle.bits.proofs.Common.{clash}
 use Rattle.gmp.specs.Places.{places, isData}
 use Rattle.gmp.specs.Runs.{changes, lastOfRun, runsFrom, EndsRun}
 

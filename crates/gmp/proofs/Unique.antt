@@ -4,7 +4,8 @@ use mathlib.Core.Path.{_≡_, refl, sym, ap, _∙_}
 use mathlib.Core.List.{List}
 use native.Mathlib.Omega.{arith}
 use Rattle.answer.specs.declared.Answer.{Answer}
-use Rattle.answer.proofs.Meets.{only-answer, only-outcome}
+use Rattle.answer.proofs.Meets.{only-outcome}
+use Rattle.bits.proofs.Common.{only}
 use Rattle.gmp.specs.Places.{kindNumber}
 use Rattle.gmp.specs.Answers.{Told, told, runOf, runsOf, Mapped, Unmapped}
 use Rattle.gmp.specs.declared.told.Kind.{Kind}
@@ -28,7 +29,7 @@ only-run c j r r′ p q =
     (same-kind (r .kind) (r′ .kind) (ap (λ (x : Told). x .kind) e)) (ap (λ (x : Told). x .last) e)
 
 pub only-runs : (c j : ℕ) (r r′ : Answer) → r ≡ runsOf c j → r′ ≡ runsOf c j → r ≡ r′
-only-runs c j r r′ p q = only-answer p q
+only-runs c j r r′ p q = only p q
 
 pub only-map : (c f n : ℕ) (g w : List ℕ) (r r′ : Answer) (out out′ : List ℕ) → Mapped c f n g w r out → Mapped c f n g w r′ out′ → (r ≡ r′) × (out ≡ out′)
 only-map c f n g w r r′ out out′ p q = only-outcome p q

@@ -7,7 +7,7 @@ use lib.ListN.{length}
 use Rattle.bits.specs.Bits.{pack}
 use Rattle.answer.specs.Numbers.{allDone, outsideSet, wrongLength, spareBit}
 use Rattle.answer.specs.Outcomes.{Outcome, written}
-use Rattle.answer.specs.Rows.{answerOf, whole, buffers}
+use Rattle.answer.specs.Rows.{Row, answerOf, whole, buffers}
 use Rattle.answer.specs.declared.Answer.{Answer}
 use Rattle.gmp.specs.Places.{places, kindNumber, kindAt, dataFrom}
 use Rattle.gmp.specs.Runs.{lastOfRun, runsFrom}
@@ -34,9 +34,12 @@ runOf c j =
     cond (outsidePlace c j) (record { number = outsideSet; kind = kindNumber Stuff; last = 0 })
     (record { number = allDone; kind = kindAt c j; last = lastOfRun c j })
 
--- the number of runs is a count
+-- the table of a request for the number of runs, which is a count
+abbrev pub runsRows : ℕ → ℕ → List Row
+runsRows c j = whole outsideSet (outsidePlace c j) ∷ []
+
 unfoldable pub runsOf : ℕ → ℕ → Answer
-runsOf c j = answerOf (whole outsideSet (outsidePlace c j) ∷ []) (runsFrom c j)
+runsOf c j = answerOf (runsRows c j) (runsFrom c j)
 
 -- ---- windows
 
@@ -44,24 +47,28 @@ runsOf c j = answerOf (whole outsideSet (outsidePlace c j) ∷ []) (runsFrom c j
 abbrev pub wrong : ℕ → ℕ → Bool
 wrong l stated = not (eqb l stated)
 
--- mapping the groups g into a window of l bytes: the buffers are the groups and the window; the count is d
-unfoldable pub mapAnswer : ℕ → ℕ → ℕ → List ℕ → ℕ → Answer
-mapAnswer c f n g l =
-    answerOf
-    (whole outsideSet (outsideWindow c f n)
+-- the table of mapping the groups g into a window of l bytes: the buffers are the groups and the window
+abbrev pub mapRows : ℕ → ℕ → ℕ → List ℕ → ℕ → List Row
+mapRows c f n g l =
+    whole outsideSet (outsideWindow c f n)
     ∷ buffers wrongLength (wrong (length g) (groupBytes (dataFrom c f n)) ∷ wrong l (windowBytes n) ∷ [])
     ∷ buffers spareBit (spareSet (dataFrom c f n) g ∷ [])
-    ∷ [])
-    (dataFrom c f n)
+    ∷ []
 
--- unmapping a window of l bytes into groups of k bytes: the buffers are the window and the groups; the count is d
-unfoldable pub unmapAnswer : ℕ → ℕ → ℕ → ℕ → ℕ → Answer
-unmapAnswer c f n l k =
-    answerOf
-    (whole outsideSet (outsideWindow c f n)
+-- the count is d
+unfoldable pub mapAnswer : ℕ → ℕ → ℕ → List ℕ → ℕ → Answer
+mapAnswer c f n g l = answerOf (mapRows c f n g l) (dataFrom c f n)
+
+-- the table of unmapping a window of l bytes into groups of k bytes: the buffers are the window and the groups
+abbrev pub unmapRows : ℕ → ℕ → ℕ → ℕ → ℕ → List Row
+unmapRows c f n l k =
+    whole outsideSet (outsideWindow c f n)
     ∷ buffers wrongLength (wrong l (windowBytes n) ∷ wrong k (groupBytes (dataFrom c f n)) ∷ [])
-    ∷ [])
-    (dataFrom c f n)
+    ∷ []
+
+-- the count is d
+unfoldable pub unmapAnswer : ℕ → ℕ → ℕ → ℕ → ℕ → Answer
+unmapAnswer c f n l k = answerOf (unmapRows c f n l k) (dataFrom c f n)
 
 -- the contract of `map`, where w is the window before and `out` the window after
 abbrev pub Mapped : ℕ → ℕ → ℕ → List ℕ → List ℕ → Answer → List ℕ → Type 0

@@ -1,5 +1,5 @@
 -- Document 01, "GMP places" (ITU-T G.709 Annex D): the places of a four-frame envelope and their kinds. Assumes nothing: these are definitions.
-use Prim.Native.Nat.{ℕ, suc, _+_, _*_, _%_, _≤_}
+use Prim.Native.Nat.{ℕ, _+_, _*_, _%_, _≤_}
 use mathlib.Core.Bool.{Bool, cond}
 use lib.Dec.{ltb}
 use Rattle.bits.specs.Loops.{count}
@@ -13,6 +13,10 @@ places = 10220
 -- a place has four blocks of 257 bits
 abbrev pub groupBits : ℕ
 groupBits = 1028
+
+-- two places, or two groups, are so many bytes
+abbrev pub pairBytes : ℕ
+pairBytes = 257
 
 -- "For a count C in 0..10,220, place j in 1..10,220 is data if (j·C) mod P < C, else stuff"
 unfoldable pub isData : ℕ → ℕ → Bool

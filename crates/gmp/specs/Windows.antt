@@ -6,14 +6,14 @@ use mathlib.Core.List.{List}
 use lib.Dec.{ltb, eqb}
 use Rattle.bits.specs.Bits.{num, bitAt}
 use Rattle.bits.specs.Loops.{first}
-use Rattle.gmp.specs.Places.{places, groupBits, isData, dataFrom}
+use Rattle.gmp.specs.Places.{places, groupBits, pairBytes, isData, dataFrom}
 
 -- the bytes of d groups, ceil(128.5·d), and of n places, 257·n/2
 abbrev pub groupBytes : ℕ → ℕ
-groupBytes d = (257 * d + 1) / 2
+groupBytes d = (pairBytes * d + 1) / 2
 
 abbrev pub windowBytes : ℕ → ℕ
-windowBytes n = 257 * n / 2
+windowBytes n = pairBytes * n / 2
 
 -- "an odd first place f and an even number n ≥ 2 of places, ending at or before 10,220", and a count: one of these is not so
 abbrev pub outsideWindow : ℕ → ℕ → ℕ → Bool
@@ -38,7 +38,7 @@ pub record DataIn (c f n r : ℕ) : Type 0 where
   pub is : r ≡ dataFrom c f n
   pub few : r ≤ places
 
--- bit i of the window: it belongs to place f + i / 1028, which holds the next data group, or stuff, "all zero"
+-- bit i of the window: it belongs to place f + i / groupBits, which holds the next data group, or stuff, "all zero"
 unfoldable pub windowBit : ℕ → ℕ → List ℕ → ℕ → ℕ
 windowBit c f g i =
     cond (isData c (f + i / groupBits)) (bitAt g (groupBits * dataFrom c f (i / groupBits) + i % groupBits)) 0
@@ -52,7 +52,7 @@ pub record GroupAt (c f n q r : ℕ) : Type 0 where
   pub is : r ≡ groupPlace c f n q
   pub within : r ≤ places
 
--- bit i of the groups: it belongs to group i / 1028, which is the whole of its place. Stuff is not looked at; behind the last group bits are zero
+-- bit i of the groups: it belongs to group i / groupBits, which is the whole of its place. Stuff is not looked at; behind the last group bits are zero
 unfoldable pub groupsBit : ℕ → ℕ → ℕ → List ℕ → ℕ → ℕ
 groupsBit c f n w i =
     cond (ltb (i / groupBits) (dataFrom c f n)) (bitAt w (groupBits * groupPlace c f n (i / groupBits) + i % groupBits)) 0
@@ -61,7 +61,7 @@ groupsBit c f n w i =
 unfoldable pub spareSet : ℕ → List ℕ → Bool
 spareSet d g = eqb (d % 2) 1 && not (eqb (num 4 (bitAt g) (groupBits * d)) 0)
 
--- ---- how the code goes: two places, or two groups, at a time, since together they are 257 bytes
+-- ---- how the code goes: two places, or two groups, at a time, since together they are whole bytes
 
 -- bit i of a piece: a bit of s, or zero where the piece is not there
 abbrev pub piece : List ℕ → Bool → ℕ → ℕ

@@ -6,7 +6,7 @@ ghost use lib.ListN.{length};
 ghost use Rattle.bits.specs.Bits.{num, byteOf, pack, tabulate};
 ghost use Rattle.answer.specs.Numbers.{outsideSet};
 ghost use Rattle.answer.specs.Rows.{refused};
-ghost use Rattle.gmp.specs.Places.{places, groupBits, isData, dataFrom, Place};
+ghost use Rattle.gmp.specs.Places.{places, groupBits, pairBytes, isData, dataFrom, Place};
 ghost use Rattle.gmp.specs.Runs.{lastOfRun, runsFrom};
 ghost use Rattle.gmp.specs.Answers.{outsidePlace, told, runOf, runsOf, mapAnswer, unmapAnswer, Mapped, Unmapped};
 ghost use Rattle.gmp.specs.Windows.{groupBytes, windowBytes, outsideWindow, Window, Stretch, DataIn, windowBit, groupPlace, GroupAt, groupsBit, spareSet, piece, pairBit};
@@ -20,9 +20,10 @@ pub use told::Run;
 // The places of an envelope are 1 to PLACES.
 pub const PLACES: u64 = 10220;
 
-// A place has four blocks of 257 bits; two places are 257 bytes.
+// A place, and a data group, has four blocks of 257 bits.
 const GROUP_BITS: usize = 1028;
 
+// Two of them are whole bytes.
 const PAIR_BYTES: usize = 257;
 
 // The kind of place j and the last place of its run.
@@ -109,6 +110,7 @@ fn outside_place(c: u64, j: u64) -> bool
     PLACES < j
 }
 
+// Whether place j is data.
 fn is_data(c: u64, j: u64) -> bool
     requires { ⌜ Place c j ⌝ }
     ensures { λ r. ⌜ r ≡ isData c j ⌝ }
@@ -212,10 +214,10 @@ fn map_answer(c: u64, f: u64, n: u64, groups: &[u8], window: usize) -> Answer
         return outside();
     }
     let d = data_in(c, f, n);
-    if groups.len() as u64 != (257 * d + 1) / 2 {
+    if groups.len() != (PAIR_BYTES * (d as usize) + 1) / 2 {
         return answer::refuse(answer::WRONG_LENGTH, answer::buffer_place(1));
     }
-    if window as u64 != 257 * n / 2 {
+    if window != PAIR_BYTES * (n as usize) / 2 {
         return answer::refuse(answer::WRONG_LENGTH, answer::buffer_place(2));
     }
     if spare_set(d, groups) {
@@ -233,7 +235,7 @@ fn eight(s: &[u8], on: bool, at: usize) -> u8
 
 // Byte k of two pieces, which stand at bits a and b of s. They meet in the middle of byte 128.
 fn pair_byte(s: &[u8], first: bool, a: usize, second: bool, b: usize, k: usize) -> u8
-    requires { ⌜ (a ≤ groupBits * places) × (b ≤ groupBits * places) × (k < 257) ⌝ }
+    requires { ⌜ (a ≤ groupBits * places) × (b ≤ groupBits * places) × (k < pairBytes) ⌝ }
     ensures { λ r. ⌜ r ≡ byteOf (pairBit (now (s .entry)) first a second b) k ⌝ }
 {
     if k < 128 {
@@ -247,7 +249,7 @@ fn pair_byte(s: &[u8], first: bool, a: usize, second: bool, b: usize, k: usize) 
 
 // The bytes of two pieces, or as many of them as there is room for.
 fn fill_pair(s: &[u8], first: bool, a: usize, second: bool, b: usize, out: &mut [u8])
-    requires { ⌜ (a ≤ groupBits * places) × (b ≤ groupBits * places) × (length (now out) ≤ 257) ⌝ }
+    requires { ⌜ (a ≤ groupBits * places) × (b ≤ groupBits * places) × (length (now out) ≤ pairBytes) ⌝ }
     ensures { λ _. ⌜ now (out .exit) ≡ pack (length (now (out .entry))) (pairBit (now (s .entry)) first a second b) ⌝ }
 {
     for k in 0..out.len() {
@@ -257,8 +259,8 @@ fn fill_pair(s: &[u8], first: bool, a: usize, second: bool, b: usize, out: &mut 
 
 // Places 2 p and 2 p + 1 of a window, counted from 0.
 fn fill_places(c: u64, f: u64, n: u64, p: usize, groups: &[u8], out: &mut [u8])
-    requires { ⌜ Window c f n × (p < n / 2) × (length (now out) ≡ 257) ⌝ }
-    ensures { λ _. ⌜ now (out .exit) ≡ tabulate 257 (λ k. byteOf (windowBit c f (now (groups .entry))) (257 * p + k)) ⌝ }
+    requires { ⌜ Window c f n × (p < n / 2) × (length (now out) ≡ pairBytes) ⌝ }
+    ensures { λ _. ⌜ now (out .exit) ≡ tabulate pairBytes (λ k. byteOf (windowBit c f (now (groups .entry))) (pairBytes * p + k)) ⌝ }
 {
     let m = 2 * (p as u64);
     let first = is_data(c, f + m);
@@ -287,10 +289,10 @@ fn unmap_answer(c: u64, f: u64, n: u64, window: usize, groups: usize) -> Answer
         return outside();
     }
     let d = data_in(c, f, n);
-    if window as u64 != 257 * n / 2 {
+    if window != PAIR_BYTES * (n as usize) / 2 {
         return answer::refuse(answer::WRONG_LENGTH, answer::buffer_place(1));
     }
-    if groups as u64 != (257 * d + 1) / 2 {
+    if groups != (PAIR_BYTES * (d as usize) + 1) / 2 {
         return answer::refuse(answer::WRONG_LENGTH, answer::buffer_place(2));
     }
     answer::granted(d)
@@ -309,8 +311,8 @@ fn group_place(c: u64, f: u64, n: u64, d: u64, q: u64) -> u64
 
 // Groups 2 p and 2 p + 1 of a window with d of them.
 fn fill_two(c: u64, f: u64, n: u64, d: u64, p: usize, window: &[u8], out: &mut [u8])
-    requires { ⌜ Window c f n × DataIn c f n d × (p ≤ places) × (length (now out) ≤ 257) ⌝ }
-    ensures { λ _. ⌜ now (out .exit) ≡ tabulate (length (now (out .entry))) (λ k. byteOf (groupsBit c f n (now (window .entry))) (257 * p + k)) ⌝ }
+    requires { ⌜ Window c f n × DataIn c f n d × (p ≤ places) × (length (now out) ≤ pairBytes) ⌝ }
+    ensures { λ _. ⌜ now (out .exit) ≡ tabulate (length (now (out .entry))) (λ k. byteOf (groupsBit c f n (now (window .entry))) (pairBytes * p + k)) ⌝ }
 {
     let q = 2 * (p as u64);
     let a = GROUP_BITS * (group_place(c, f, n, d, q) as usize);
@@ -318,6 +320,7 @@ fn fill_two(c: u64, f: u64, n: u64, d: u64, p: usize, window: &[u8], out: &mut [
     fill_pair(window, q < d, a, q + 1 < d, b, out);
 }
 
+// The smaller of two numbers.
 fn least(a: usize, b: usize) -> usize
     ensures { λ r. ⌜ r ≡ min a b ⌝ }
 {

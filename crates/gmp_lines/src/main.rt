@@ -82,6 +82,12 @@ fn table_row(c: u64) {
     }
 }
 
+fn table() {
+    for c in 10214..10221u64 {
+        table_row(c);
+    }
+}
+
 fn print_run(name: &[u8], c: u64, j: u64) {
     let r = gmp::run(c, j);
     text(name);
@@ -142,7 +148,30 @@ fn sum_step(acc: u64, b: u8) -> u64 {
     (acc % 1000003 * 31 + b as u64) % 1000003
 }
 
+fn sums(a: &[u8], b: &[u8], c: &[u8]) {
+    text(b" sums");
+    number(sum(a));
+    number(sum(b));
+    number(sum(c));
+    text(b"\n");
+}
+
 // A window mapped and unmapped: both answers, and sums over the window, over the groups that came back and over those given.
+fn there_and_back(
+    name: &[u8],
+    c: u64,
+    f: u64,
+    n: u64,
+    given: &mut [u8],
+    mapped: &mut [u8],
+    back: &mut [u8],
+) {
+    fill_sample(given);
+    print_answer(name, gmp::map(c, f, n, given, mapped));
+    print_answer(b" unmap", gmp::unmap(c, f, n, mapped, back));
+    sums(mapped, back, given);
+}
+
 fn window(name: &[u8], c: u64, f: u64, n: u64, groups: usize, bytes: usize) {
     let mut given = [0u8; 1028];
     let mut mapped = [9u8; 1028];
@@ -153,20 +182,15 @@ fn window(name: &[u8], c: u64, f: u64, n: u64, groups: usize, bytes: usize) {
     if bytes > 1028 {
         return;
     }
-    fill_sample(&mut given[0..groups]);
-    print_answer(
+    there_and_back(
         name,
-        gmp::map(c, f, n, &given[0..groups], &mut mapped[0..bytes]),
+        c,
+        f,
+        n,
+        &mut given[0..groups],
+        &mut mapped[0..bytes],
+        &mut back[0..groups],
     );
-    print_answer(
-        b" unmap",
-        gmp::unmap(c, f, n, &mapped[0..bytes], &mut back[0..groups]),
-    );
-    text(b" sums");
-    number(sum(&mapped[0..bytes]));
-    number(sum(&back[0..groups]));
-    number(sum(&given[0..groups]));
-    text(b"\n");
 }
 
 fn taken() {
@@ -194,16 +218,21 @@ fn refused() {
     window(b"window 10221 1 2, both wrong", 10221, 1, 2, 1, 1);
 }
 
-// Spare bits that are set, and stuff that is not zero.
+// Spare bits that are set, and a window of so many bytes.
+fn spare(name: &[u8], bytes: usize) {
+    let given = [255u8; 129];
+    let mut mapped = [0u8; 257];
+    if bytes > 257 {
+        return;
+    }
+    print_answer(name, gmp::map(10217, 1, 2, &given, &mut mapped[0..bytes]));
+}
+
+// Stuff that is not zero.
 fn stained() {
     let mut given = [255u8; 129];
-    let mut mapped = [0u8; 257];
-    print_answer(b"spare bits", gmp::map(10217, 1, 2, &given, &mut mapped));
-    print_answer(
-        b"spare bits, window short",
-        gmp::map(10217, 1, 2, &given, &mut mapped[0..256]),
-    );
     given[128] = 240;
+    let mut mapped = [0u8; 257];
     print_answer(b"no spare bits", gmp::map(10217, 1, 2, &given, &mut mapped));
     mapped[0] = 255;
     let mut back = [0u8; 129];
@@ -220,11 +249,11 @@ fn stained() {
 fn main() {
     lines();
     parts();
-    for c in 10214..10221u64 {
-        table_row(c);
-    }
+    table();
     runs();
     taken();
     refused();
+    spare(b"spare bits", 257);
+    spare(b"spare bits, window short", 256);
     stained();
 }

@@ -7,7 +7,7 @@ use native.Mathlib.Omega.{arith}
 use borrow.Author.Tests.{leb-true, eqb-true, not-false}
 use lib.Dec.{leb, eqb}
 use lib.ListN.{length}
-use Rattle.answer.proofs.Table.{and-left, and-right}
+use Rattle.bits.proofs.Common.{and-left, and-right}
 use Rattle.line.specs.Captures.{superAllowed, wrong}
 
 pub record SuperFrames (N : ℕ) : Type 0 where

@@ -1,19 +1,18 @@
 -- The tests of FEC blocks and pad: by the bytes of a super frame they are those of the capture, and five blocks more. Assumes nothing.
-use Prim.Native.Nat.{ℕ, zero, suc, _+_, _-_, _*_, _/_, _%_, _^_, _≤_, _<_}
+use Prim.Native.Nat.{ℕ, zero, suc, _+_, _*_, _/_, _%_, _≤_, _<_}
 use mathlib.Core.Bool.{Bool, true, false, not}
 use mathlib.Core.Path.{_≡_, refl, sym, ap, ap₂, _∙_}
 use mathlib.Core.List.{List}
-use native.Mathlib.Nat.{zero-div, add-zero}
+use native.Mathlib.Nat.{zero-div}
 use native.Mathlib.Omega.{arith}
 use borrow.Author.Tests.{eq-eqb, ne-eqb, eqb-true, not-false}
 use lib.Dec.{eqb}
 use lib.ListN.{length}
-use Rattle.bits.specs.Bits.{num, digit, bitAt, pack, from, Bits}
+use Rattle.bits.specs.Bits.{num, digit, bitAt, from, Bits}
 use Rattle.bits.specs.Loops.{upto, first}
 use Rattle.bits.proofs.Common.{by-bound}
 use Rattle.bits.proofs.Numbers.{num-ext, num-zero, digit-num}
 use Rattle.bits.proofs.Packing.{bitOf-lt, bitOf-past}
-use Rattle.crc.specs.Crc.{crcOf}
 use Rattle.crc.proofs.Changes.{crc-ext}
 use Rattle.line.specs.Sizes.{infoBits, crcBits, mbasBits, mbasFrom, fecBits, fecBlocks, padFrom, padBits, superBytes}
 use Rattle.line.specs.Fec.{mbasOf}

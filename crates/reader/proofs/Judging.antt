@@ -1,5 +1,5 @@
 -- The table of reading as the tests that the code makes: numbers 1 and 2 first, then the two tallies. Assumes nothing.
-use Prim.Native.Nat.{ℕ, suc, _*_, _≤_, _<_}
+use Prim.Native.Nat.{ℕ, suc, _*_, _≤_}
 use mathlib.Core.Bool.{Bool, true, false, not, cond, _&&_}
 use mathlib.Core.Path.{_≡_, refl, sym, ap, ap₂, _∙_}
 use mathlib.Core.List.{List, [], _∷_}
@@ -9,10 +9,11 @@ use lib.Dec.{leb, eqb}
 use lib.ListN.{length}
 use Rattle.bits.specs.Loops.{count}
 use Rattle.answer.specs.Numbers.{outsideSet, wrongLength, beyondRepair, fillerNotZero, wrongMbas, wrongCrc, padNotZero}
-use Rattle.answer.specs.Rows.{Row, done, refused, answerOf, whole, buffers, bufferPlace}
+use Rattle.answer.specs.Rows.{Row, done, refused, answerOf, buffers, bufferPlace}
 use Rattle.answer.specs.Outcomes.{Outcome, written}
 use Rattle.answer.specs.declared.Answer.{Answer}
-use Rattle.answer.proofs.Table.{row-whole, row-buffers, inTurn, and-left, and-right}
+use Rattle.answer.proofs.Table.{row-whole, row-buffers, inTurn}
+use Rattle.bits.proofs.Common.{and-left, and-right}
 use Rattle.answer.proofs.Meets.{meets-done, meets-refused}
 use Rattle.line.specs.Sizes.{fecBlocks, infoLength, parityLength, captureLength, words}
 use Rattle.line.specs.Captures.{superAllowed, wrong}

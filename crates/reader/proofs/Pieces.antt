@@ -1,12 +1,12 @@
 -- What the small functions make of bytes: nine bits, thirty-two bits, copied bits and their CRC. Assumes nothing.
-use Prim.Native.Nat.{ℕ, _+_, _*_, _/_, _^_, _<_}
-use mathlib.Core.Path.{_≡_, refl, sym, ap, ap₂, _∙_}
+use Prim.Native.Nat.{ℕ, _+_, _*_, _/_, _<_}
+use mathlib.Core.Path.{_≡_, sym, ap, ap₂, _∙_}
 use mathlib.Core.List.{List}
 use native.Mathlib.Nat.{add-assoc}
 use native.Mathlib.Omega.{arith}
 use lib.Dec.{lit<}
-use lib.ListN.{length, getD}
-use Rattle.bits.specs.Bits.{tabulate, num, bitAt, byteOf, pack, from, Bits, Bytes}
+use lib.ListN.{getD}
+use Rattle.bits.specs.Bits.{num, bitAt, byteOf, pack, from, Bits, Bytes}
 use Rattle.bits.proofs.Common.{by-bound}
 use Rattle.bits.proofs.Lists.{getD-tabulate, getD-past}
 use Rattle.bits.proofs.Numbers.{num-ext, num-lt, num-split, num-front}

@@ -7,14 +7,13 @@ use mathlib.Core.List.{List}
 use lib.Bits.{bitXor}
 use lib.Dec.{ltb, eqb}
 use lib.ListN.{getD, length}
-use Rattle.bits.specs.Bits.{num, bitAt, byteOf, pack, from}
+use Rattle.bits.specs.Bits.{num, bitAt, pack, from}
 use Rattle.bits.specs.Loops.{first, count}
 use Rattle.answer.specs.Numbers.{outsideSet, wrongLength, beyondRepair, fillerNotZero, wrongMbas, wrongCrc, padNotZero}
 use Rattle.answer.specs.Rows.{done, refused, bufferPlace}
 use Rattle.answer.specs.Outcomes.{written}
 use Rattle.answer.specs.declared.Answer.{Answer}
 use Rattle.crc.specs.Crc.{crcOf}
-use Rattle.crc.specs.ByBytes.{entries}
 use Rattle.scrambler.specs.Scrambler.{o}
 use Rattle.hamming.specs.declared.Found.{Found}
 use Rattle.hamming.specs.declared.Found.the-variants.{Clean, Turned, Beyond}

@@ -2,13 +2,13 @@
 -- contract would not pass here. Assumes nothing.
 use mathlib.Core.Path.{_≡_}
 use denote.Ref.{now}
-use Rattle.bits.proofs.OneAnswer.{one-answer}
+use Rattle.bits.proofs.Common.{only}
 use Rattle.scrambler.proofs.fill.Reads as fill
 use Rattle.scrambler.proofs.sequence.Reads as sequence
 
 -- s and t are the two states at exit; their first part is what is left in `out`
 pub one-fill : (κs : _) (a : _) (x y : _) (s t : _) → fill.Post κs a x s → fill.Post κs a y t → now (s .0) ≡ now (t .0)
-one-fill κs a x y s t p q = one-answer p q
+one-fill κs a x y s t p q = only p q
 
 pub one-sequence : (κs : _) (a : _) (x y : _) (s t : _) → sequence.Post κs a x s → sequence.Post κs a y t → x ≡ y
-one-sequence κs a x y s t p q = one-answer p q
+one-sequence κs a x y s t p q = only p q

@@ -1,3 +1,7 @@
+-- `capture::information` meets its contract: the part itself, or the empty part. Assumes nothing.
+use native.Mathlib.Omega.{arith}
+use denote.Ref.{now}
+use Rattle.capture.proofs.Parting.{Part, granted-part, part-given, part-empty}
 use borrow.Author.Needs.{needs}
 use Rattle.capture.proofs.information.Statement.{statement}
 use Rattle.capture.proofs.information.Tie as tie
@@ -5,49 +9,45 @@ use Rattle.capture.proofs.information.Reads as reads
 use Rattle.capture.proofs.information.Lts as lts
 use Rattle.capture.proofs.information_answer.Reads as information-answer-reads
 
--- src/lib.rt:14:9
+-- what the second question's answer 0 says
+shown : (c : tie.Then1) → Part (c .before .before .before .before .args .n) (c .before .before .before .before .args .t) (now (c .before .before .before .before .args .info))
+shown c =
+    let a = c .before .before .before .before .args in
+    let r = c .before .before .information-answer in
+    granted-part (a .n) (a .t) (now (a .info)) (r .result) (r .ensures) (c .if1 .taken)
+
 information-answer-requires : tie.Need-information-answer-requires
 information-answer-requires c κs = search needs
 
--- src/lib.rt:16:20
 mul-from : tie.Need-mul-from
-mul-from c = ?
+mul-from c = omega (arith, shown c)
 
--- src/lib.rt:17:28
 add-result : tie.Need-add-result
-add-result c = ?
+add-result c = omega (arith, shown c)
 
--- src/lib.rt:17:16
 sub-result : tie.Need-sub-result
 sub-result c = search needs
 
--- src/lib.rt:17:16
 part-result-start : tie.Need-part-result-start
 part-result-start c = search needs
 
--- src/lib.rt:17:16
 part-result-end : tie.Need-part-result-end
-part-result-end c = ?
+part-result-end c = omega (arith, shown c)
 
--- src/lib.rt:17:9
 returns : tie.Need-returns
-returns c = ?
+returns c = let a = c .before .before .before .before .before .args in part-given (a .n) (a .t) (now (a .info)) (c .before .before .before .information-answer .result) (c .before .before .before .information-answer .ensures) (c .before .if1 .taken)
 
--- src/lib.rt:19:5
 sub-result-2 : tie.Need-sub-result-2
 sub-result-2 c = search needs
 
--- src/lib.rt:19:5
 part-result-start-2 : tie.Need-part-result-start-2
 part-result-start-2 c = search needs
 
--- src/lib.rt:19:5
 part-result-end-2 : tie.Need-part-result-end-2
 part-result-end-2 c = search needs
 
--- src/lib.rt:11:1
 returns-2 : tie.Need-returns-2
-returns-2 c = ?
+returns-2 c = let a = c .before .before .before .before .before .args in part-empty (a .n) (a .t) (now (a .info)) (c .before .before .before .information-answer .result) (c .before .before .before .information-answer .ensures) (c .before .if1 .left)
 
 pub information-spec : {M : Type 1} → statement M
 information-spec =

@@ -1,3 +1,15 @@
+-- `capture::information_answer` meets its contract: each return by the tests that led there. Assumes nothing.
+use Prim.Native.Nat.{_<_}
+use mathlib.Core.Bool.{true}
+use mathlib.Core.Path.{_≡_, sym, ap, _∙_}
+use native.Mathlib.Omega.{arith}
+use borrow.Author.Tests.{not-true, not-false}
+use denote.Ref.{now}
+use Rattle.answer.specs.Numbers.{wrongLength}
+use Rattle.answer.specs.Rows.{refused}
+use Rattle.line.specs.Captures.{superAllowed}
+use Rattle.line.proofs.CaptureLaws.{super-frames}
+use Rattle.capture.proofs.Parting.{no-frames, no-block, no-length, all-right}
 use borrow.Author.Needs.{needs}
 use Rattle.capture.proofs.information_answer.Statement.{statement}
 use Rattle.capture.proofs.information_answer.Tie as tie
@@ -8,53 +20,49 @@ use Rattle.answer.proofs.granted.Reads as granted-reads
 use Rattle.answer.proofs.refuse.Reads as refuse-reads
 use Rattle.line.proofs.super_allowed.Reads as super-allowed-reads
 
--- src/lib.rt:26:9
+allowed : (c : tie.Else1) → superAllowed (c .before .before .before .args .n) ≡ true
+allowed c = sym (c .before .super-allowed .ensures) ∙ not-false (c .before .super-allowed .result) (c .if1 .left)
+
+few : (c : tie.Else1) → c .before .before .before .args .n < 9
+few c = super-frames (c .before .before .before .args .n) (allowed c) .few
+
 super-allowed-requires : tie.Need-super-allowed-requires
 super-allowed-requires c κs = search needs
 
--- src/lib.rt:27:9
 refuse-requires : tie.Need-refuse-requires
 refuse-requires c κs = search needs
 
--- src/lib.rt:27:9
 returns : tie.Need-returns
-returns c = ?
+returns c = let a = c .before .before .before .before .args in c .refuse .ensures ∙ no-frames (a .n) (a .t) (now (a .info)) (sym (c .before .before .super-allowed .ensures) ∙ not-true (c .before .before .super-allowed .result) (c .before .if1 .taken))
 
--- src/lib.rt:29:8
 mul-if2 : tie.Need-mul-if2
-mul-if2 c = ?
+mul-if2 c = omega (arith, few c)
 
--- src/lib.rt:30:9
 refuse-requires-2 : tie.Need-refuse-requires-2
 refuse-requires-2 c κs = search needs
 
--- src/lib.rt:30:9
 returns-2 : tie.Need-returns-2
-returns-2 c = ?
+returns-2 c = let a = c .before .before .before .before .before .args in c .refuse2 .ensures ∙ no-block (a .n) (a .t) (now (a .info)) (allowed (c .before .before)) (c .before .if2 .taken)
 
--- src/lib.rt:32:29
 mul-if3 : tie.Need-mul-if3
-mul-if3 c = ?
+mul-if3 c = omega (arith, few (c .before))
 
--- src/lib.rt:33:53
 buffer-place-requires : tie.Need-buffer-place-requires
 buffer-place-requires c κs = search needs
 
--- src/lib.rt:33:9
 refuse-requires-3 : tie.Need-refuse-requires-3
 refuse-requires-3 c κs = search needs
 
--- src/lib.rt:33:9
 returns-3 : tie.Need-returns-3
-returns-3 c = ?
+returns-3 c = let a = c .before .before .before .before .before .before .before .args in
+    c .refuse3 .ensures ∙ ap (refused wrongLength) (c .before .buffer-place .ensures)
+    ∙ no-length (a .n) (a .t) (now (a .info)) (allowed (c .before .before .before .before)) (c .before .before .before .if2 .left) (c .before .before .if3 .taken)
 
--- src/lib.rt:35:5
 granted-requires : tie.Need-granted-requires
 granted-requires c κs = search needs
 
--- src/lib.rt:23:1
 returns-4 : tie.Need-returns-4
-returns-4 c = ?
+returns-4 c = let a = c .before .before .before .before .before .before .args in c .granted .ensures ∙ all-right (a .n) (a .t) (now (a .info)) (allowed (c .before .before .before)) (c .before .before .if2 .left) (c .before .if3 .left)
 
 pub information-answer-spec : {M : Type 1} → statement M
 information-answer-spec =

@@ -1,5 +1,4 @@
 -- `editor::edit_checked` meets its contract. Assumes nothing.
-use mathlib.Core.Path.{_∙_}
 use denote.Ref.{now}
 use Rattle.editor.proofs.Answers.{nine-outcome, done-outcome}
 use borrow.Author.Needs.{needs}

@@ -1,5 +1,5 @@
 -- `editor::first_refused` meets its contract. Assumes nothing.
-use Prim.Native.Nat.{_+_, _-_, _*_}
+use Prim.Native.Nat.{_-_}
 use mathlib.Core.Path.{sym, _∙_}
 use native.Mathlib.Omega.{arith}
 use Rattle.bits.proofs.LoopLaws.{loops, Passed, passed-more, first-here, first-none}

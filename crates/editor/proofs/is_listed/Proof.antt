@@ -1,7 +1,5 @@
 -- `editor::is_listed` meets its contract. Assumes nothing.
-use Prim.Native.Nat.{ℕ, _%_, _/_, _*_, _+_, _<_}
-use mathlib.Core.Path.{_≡_, sym, ap, _∙_}
-use native.Mathlib.Omega.{arith}
+use mathlib.Core.Path.{sym, _∙_}
 use borrow.Author.Tests.{not-true, not-false}
 use Rattle.editor.specs.Edit.{elementFec, elementLocal}
 use Rattle.editor.proofs.Listing.{listed-empty, listed-pad, listed-elsewhere, listed-touches}

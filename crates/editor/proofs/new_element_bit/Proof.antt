@@ -1,5 +1,5 @@
 -- `editor::new_element_bit` meets its contract. Assumes nothing.
-use Prim.Native.Nat.{ℕ, _+_, _*_, _%_}
+use Prim.Native.Nat.{_+_, _*_, _%_}
 use mathlib.Core.Path.{ap, _∙_}
 use denote.Ref.{now}
 use Rattle.editor.specs.Edit.{elementLocal}

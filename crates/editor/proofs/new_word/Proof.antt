@@ -1,7 +1,6 @@
 -- `editor::new_word` meets its contract. Assumes nothing.
 use Prim.Native.Nat.{ℕ}
 use mathlib.Core.Path.{ap, _∙_}
-use mathlib.Core.List.{List}
 use denote.Ref.{now}
 use Rattle.bits.specs.Bits.{pack}
 use Rattle.hamming.proofs.Tabled.{by-word}

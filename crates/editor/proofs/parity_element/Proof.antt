@@ -1,5 +1,5 @@
 -- `editor::parity_element` meets its contract. Assumes nothing.
-use mathlib.Core.Path.{refl, _∙_}
+use mathlib.Core.Path.{_∙_}
 use native.Mathlib.Omega.{arith}
 use denote.Ref.{now}
 use Rattle.editor.specs.Edit.{elementLocal}

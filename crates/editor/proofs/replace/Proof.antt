@@ -1,7 +1,5 @@
 -- `editor::replace` meets its contract. Assumes nothing.
 use native.Mathlib.Omega.{arith}
-use Rattle.scrambler.specs.Scrambler.{o}
-use Rattle.editor.specs.Parts.{Lent}
 use borrow.Author.Needs.{needs}
 use Rattle.editor.proofs.replace.Statement.{statement}
 use Rattle.editor.proofs.replace.Tie as tie

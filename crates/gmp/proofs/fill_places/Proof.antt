@@ -1,5 +1,4 @@
 -- `gmp::fill_places` meets its contract: the law `window-pair`. Assumes nothing.
-use native.Mathlib.Omega.{arith}
 use denote.Ref.{now}
 use Rattle.gmp.proofs.Filling.{window-pair}
 use borrow.Author.Needs.{needs}

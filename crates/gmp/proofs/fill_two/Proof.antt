@@ -1,5 +1,4 @@
 -- `gmp::fill_two` meets its contract: the law `groups-pair`. Assumes nothing.
-use native.Mathlib.Omega.{arith}
 use denote.Ref.{now}
 use lib.ListN.{length}
 use Rattle.gmp.proofs.Filling.{groups-pair}

@@ -1,5 +1,4 @@
 -- `gmp::outside_place` meets its contract: each return by the tests that led there. Assumes nothing.
-use borrow.Author.Needs.{needs}
 use borrow.Author.Tests.{lt-ltb, le-ltb}
 use Rattle.gmp.proofs.outside_place.Statement.{statement}
 use Rattle.gmp.proofs.outside_place.Tie as tie

@@ -1,7 +1,7 @@
 -- `gmp::unmap` meets its contract: refused by the table, or filled. Assumes nothing.
 use denote.Ref.{now}
 use lib.ListN.{length}
-use Rattle.answer.proofs.Meets.{meets}
+use Rattle.answer.proofs.Meets.{meets-done, meets-refused}
 use Rattle.gmp.proofs.Judging.{unmap-taken}
 use borrow.Author.Needs.{needs}
 use Rattle.gmp.proofs.unmap.Statement.{statement}
@@ -21,10 +21,10 @@ same-length : tie.Need-same-length
 same-length c = search needs
 
 returns : tie.Need-returns
-returns c = search meets
+returns c = search (meets-done, meets-refused)
 
 returns-2 : tie.Need-returns-2
-returns-2 c = search meets
+returns-2 c = search (meets-done, meets-refused)
 
 pub unmap-spec : {M : Type 1} → statement M
 unmap-spec =

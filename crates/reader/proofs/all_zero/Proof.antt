@@ -1,17 +1,10 @@
 -- `reader::all_zero` meets its contract. Assumes nothing.
 use borrow.Author.Needs.{needs}
-use Prim.Native.Nat.{ℕ, _-_}
-use mathlib.Core.Bool.{not}
-use native.Mathlib.Omega.{arith}
-use lib.Dec.{eqb}
-use lib.ListN.{getD}
+use Prim.Native.Nat.{_-_}
 use Rattle.bits.proofs.LoopLaws.{Passed, passed-more, loops}
-use borrow.Author.Tests.{eq-eqb}
-use Rattle.reader.proofs.Searching.{zero-all, zero-not, someAt, some-none, some-all}
+use Rattle.reader.proofs.Searching.{zero-not, someAt, some-none, some-all}
 use Rattle.reader.proofs.all_zero.Statement.{statement}
 use Rattle.reader.proofs.all_zero.Tie as tie
-use Rattle.reader.proofs.all_zero.Reads as reads
-use Rattle.reader.proofs.all_zero.Lts as lts
 
 abbrev Inv-loop : tie.InvT-loop
 Inv-loop word k₀ k = Passed k (someAt word) 16

@@ -1,6 +1,5 @@
 -- `reader::block_crc` meets its contract. Assumes nothing.
-use Prim.Native.Nat.{_+_}
-use Prim.Native.Nat.{_*_}
+use Prim.Native.Nat.{_+_, _*_}
 use mathlib.Core.Path.{_∙_}
 use denote.Ref.{now}
 use Rattle.bits.specs.Bits.{bitAt, from}
@@ -9,10 +8,6 @@ use Rattle.reader.proofs.Pieces.{crc-packed}
 use borrow.Author.Needs.{needs}
 use Rattle.reader.proofs.block_crc.Statement.{statement}
 use Rattle.reader.proofs.block_crc.Tie as tie
-use Rattle.reader.proofs.block_crc.Reads as reads
-use Rattle.reader.proofs.block_crc.Lts as lts
-use Rattle.crc.proofs.crc.Reads as crc-reads
-use Rattle.reader.proofs.copy_bits.Reads as copy-bits-reads
 
 mul-copy-bits : tie.Need-mul-copy-bits
 mul-copy-bits c = search needs

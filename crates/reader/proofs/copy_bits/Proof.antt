@@ -8,9 +8,6 @@ use Rattle.bits.proofs.LoopLaws.{loops}
 use Rattle.reader.proofs.Pieces.{copied}
 use Rattle.reader.proofs.copy_bits.Statement.{statement}
 use Rattle.reader.proofs.copy_bits.Tie as tie
-use Rattle.reader.proofs.copy_bits.Reads as reads
-use Rattle.reader.proofs.copy_bits.Lts as lts
-use Rattle.bits.proofs.byte_from.Reads as byte-from-reads
 
 abbrev Inv-loop : tie.InvT-loop
 Inv-loop s at out₀ k₀ k-end out k = Filled k (byteOf (from (bitAt s) at)) out₀ out

@@ -7,11 +7,6 @@ use Rattle.reader.proofs.Pieces.{word-of}
 use borrow.Author.Needs.{needs}
 use Rattle.reader.proofs.element.Statement.{statement}
 use Rattle.reader.proofs.element.Tie as tie
-use Rattle.reader.proofs.element.Reads as reads
-use Rattle.reader.proofs.element.Lts as lts
-use Rattle.line.proofs.word_in.Reads as word-in-reads
-use Rattle.reader.proofs.repair_word.Reads as repair-word-reads
-use Rattle.reader.proofs.slot.Reads as slot-reads
 
 slot-requires : tie.Need-slot-requires
 slot-requires c κs = search needs

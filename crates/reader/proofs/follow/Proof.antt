@@ -1,5 +1,5 @@
 -- `reader::follow` meets its contract. Assumes nothing.
-use Prim.Native.Nat.{_+_, _*_, _/_, _<_}
+use Prim.Native.Nat.{_+_, _*_, _/_}
 use mathlib.Core.Path.{_≡_, ap, _∙_}
 use native.Mathlib.Omega.{arith}
 use mir.Syntax.{w8}
@@ -12,9 +12,6 @@ use Rattle.reader.proofs.Pieces.{nine-of}
 use borrow.Author.Needs.{needs}
 use Rattle.reader.proofs.follow.Statement.{statement}
 use Rattle.reader.proofs.follow.Tie as tie
-use Rattle.reader.proofs.follow.Reads as reads
-use Rattle.reader.proofs.follow.Lts as lts
-use Rattle.bits.proofs.wide.Reads as wide-reads
 
 bytes-a : (c : tie.Start) → Bytes (c .args .a)
 bytes-a c k = let f : Fits w8 (getD (c .args .a) k 0) = search needs in f .fits

@@ -1,30 +1,21 @@
 -- `reader::frame` meets its contract: before element l the bytes that begin in the elements before it are there. Assumes nothing.
-use Prim.Native.Nat.{ℕ, _%_}
-use mathlib.Core.Path.{refl, ap₂}
-use lib.ListN.{take, drop}
+use Prim.Native.Nat.{ℕ, _%_, _+_, _-_, _*_, _≤_}
+use mathlib.Core.Path.{refl, ap₂, _≡_, ap, _∙_}
+use lib.ListN.{take, drop, length}
 use Rattle.bits.proofs.Packing.{length-packs}
 use Rattle.scrambler.specs.Scrambler.{o}
-use Rattle.reader.specs.Parts.{followed, plainByte}
+use Rattle.reader.specs.Parts.{followed, plainByte, startOf}
 use Rattle.reader.proofs.Places.{element-byte, part-long, filled-part}
-use Prim.Native.Nat.{_+_, _-_, _*_, _/_, _≤_}
-use mathlib.Core.Path.{_≡_, ap, _∙_}
 use native.Mathlib.Omega.{arith}
 use denote.Ref.{now}
-use lib.ListN.{length}
 use borrow.Author.Needs.{needs}
 use Rattle.bits.specs.Bits.{byteOf}
-use Rattle.bits.proofs.Lists.{Filled, filled-none, filled-block, filled-all}
+use Rattle.bits.proofs.Lists.{Filled, filled-none, filled-all}
 use Rattle.line.specs.Slots.{slotOf}
 use Rattle.line.specs.Words.{superIn}
 use Rattle.reader.specs.Read.{repaired}
-use Rattle.reader.specs.Parts.{startOf}
 use Rattle.reader.proofs.frame.Statement.{statement}
 use Rattle.reader.proofs.frame.Tie as tie
-use Rattle.reader.proofs.frame.Reads as reads
-use Rattle.reader.proofs.frame.Lts as lts
-use Rattle.reader.proofs.element.Reads as element-reads
-use Rattle.reader.proofs.follow.Reads as follow-reads
-use Rattle.reader.proofs.put_bytes.Reads as put-bytes-reads
 
 abbrev Inv-loop : tie.InvT-loop
 Inv-loop t positions scr capture f out₀ here₀ l₀ out here l = Filled (startOf l) (byteOf (superIn (repaired capture) f)) out₀ out × (here ≡ repaired capture (slotOf (10976 * f + l))) × (l ≤ 10976)

@@ -3,10 +3,6 @@ use Rattle.reader.specs.Parts.{crcOff}
 use borrow.Author.Needs.{needs}
 use Rattle.reader.proofs.is_crc_off.Statement.{statement}
 use Rattle.reader.proofs.is_crc_off.Tie as tie
-use Rattle.reader.proofs.is_crc_off.Reads as reads
-use Rattle.reader.proofs.is_crc_off.Lts as lts
-use Rattle.reader.proofs.block_crc.Reads as block-crc-reads
-use Rattle.reader.proofs.long_from.Reads as long-from-reads
 
 mul-long-from : tie.Need-mul-long-from
 mul-long-from c = search needs

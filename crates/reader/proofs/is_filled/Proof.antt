@@ -5,10 +5,6 @@ use Rattle.line.specs.Slots.{holds}
 use borrow.Author.Needs.{needs}
 use Rattle.reader.proofs.is_filled.Statement.{statement}
 use Rattle.reader.proofs.is_filled.Tie as tie
-use Rattle.reader.proofs.is_filled.Reads as reads
-use Rattle.reader.proofs.is_filled.Lts as lts
-use Rattle.line.proofs.holds_element.Reads as holds-element-reads
-use Rattle.reader.proofs.all_zero.Reads as all-zero-reads
 
 holds-element-requires : tie.Need-holds-element-requires
 holds-element-requires c κs = search needs

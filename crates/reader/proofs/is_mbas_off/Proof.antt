@@ -8,10 +8,6 @@ use Rattle.reader.specs.Parts.{mbasOff}
 use borrow.Author.Needs.{needs}
 use Rattle.reader.proofs.is_mbas_off.Statement.{statement}
 use Rattle.reader.proofs.is_mbas_off.Tie as tie
-use Rattle.reader.proofs.is_mbas_off.Reads as reads
-use Rattle.reader.proofs.is_mbas_off.Lts as lts
-use Rattle.bits.proofs.byte_from.Reads as byte-from-reads
-use Rattle.line.proofs.mbas.Reads as mbas-reads
 
 mul-byte-from : tie.Need-mul-byte-from
 mul-byte-from c = search needs

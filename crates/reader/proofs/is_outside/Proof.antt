@@ -5,9 +5,6 @@ use Rattle.line.specs.Captures.{superAllowed}
 use borrow.Author.Needs.{needs}
 use Rattle.reader.proofs.is_outside.Statement.{statement}
 use Rattle.reader.proofs.is_outside.Tie as tie
-use Rattle.reader.proofs.is_outside.Reads as reads
-use Rattle.reader.proofs.is_outside.Lts as lts
-use Rattle.line.proofs.mbas_allowed.Reads as mbas-allowed-reads
 
 returns : tie.Need-returns
 unfolding superAllowed

@@ -6,9 +6,6 @@ use Rattle.bits.proofs.LoopLaws.{Passed, passed-more, loops}
 use Rattle.reader.proofs.Blocks.{padByte, pad-byte, pad-here, pad-zero}
 use Rattle.reader.proofs.is_pad_off.Statement.{statement}
 use Rattle.reader.proofs.is_pad_off.Tie as tie
-use Rattle.reader.proofs.is_pad_off.Reads as reads
-use Rattle.reader.proofs.is_pad_off.Lts as lts
-use Rattle.bits.proofs.byte_from.Reads as byte-from-reads
 
 abbrev Inv-loop : tie.InvT-loop
 Inv-loop s k₀ k = Passed k (padByte s) 90

@@ -11,12 +11,6 @@ use Rattle.reader.proofs.Judging.{few-of}
 use borrow.Author.Needs.{needs}
 use Rattle.reader.proofs.judge.Statement.{statement}
 use Rattle.reader.proofs.judge.Tie as tie
-use Rattle.reader.proofs.judge.Reads as reads
-use Rattle.reader.proofs.judge.Lts as lts
-use Rattle.answer.proofs.buffer_place.Reads as buffer-place-reads
-use Rattle.answer.proofs.granted.Reads as granted-reads
-use Rattle.answer.proofs.refuse.Reads as refuse-reads
-use Rattle.reader.proofs.is_outside.Reads as is-outside-reads
 
 is-outside-requires : tie.Need-is-outside-requires
 is-outside-requires c κs = search needs

@@ -1,15 +1,10 @@
 -- `reader::long_from` meets its contract. Assumes nothing.
-use mathlib.Core.Path.{_∙_}
 use denote.Ref.{now}
 use Rattle.bits.specs.Bits.{bitAt}
 use Rattle.reader.proofs.Pieces.{long-of}
 use borrow.Author.Needs.{needs}
 use Rattle.reader.proofs.long_from.Statement.{statement}
 use Rattle.reader.proofs.long_from.Tie as tie
-use Rattle.reader.proofs.long_from.Reads as reads
-use Rattle.reader.proofs.long_from.Lts as lts
-use Rattle.bits.proofs.wide.Reads as wide-reads
-use Rattle.bits.proofs.word_from.Reads as word-from-reads
 
 word-from-requires : tie.Need-word-from-requires
 word-from-requires c κs = search needs

@@ -9,9 +9,6 @@ use Rattle.bits.proofs.LoopLaws.{loops}
 use Rattle.reader.specs.Parts.{plainByte}
 use Rattle.reader.proofs.put_bytes.Statement.{statement}
 use Rattle.reader.proofs.put_bytes.Tie as tie
-use Rattle.reader.proofs.put_bytes.Reads as reads
-use Rattle.reader.proofs.put_bytes.Lts as lts
-use Rattle.bits.proofs.byte_from.Reads as byte-from-reads
 
 abbrev Inv-loop : tie.InvT-loop
 Inv-loop v i scr out₀ k₀ k-end out k = Filled k (plainByte v i scr) out₀ out

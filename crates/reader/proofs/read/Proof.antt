@@ -4,10 +4,6 @@ use Rattle.reader.proofs.Judging.{accepted, read-late, read-refused}
 use borrow.Author.Needs.{needs}
 use Rattle.reader.proofs.read.Statement.{statement}
 use Rattle.reader.proofs.read.Tie as tie
-use Rattle.reader.proofs.read.Reads as reads
-use Rattle.reader.proofs.read.Lts as lts
-use Rattle.reader.proofs.judge.Reads as judge-reads
-use Rattle.reader.proofs.read_accepted.Reads as read-accepted-reads
 
 judge-requires : tie.Need-judge-requires
 judge-requires c κs = search needs

@@ -4,12 +4,6 @@ use Rattle.reader.proofs.Judging.{late-done, late-refused}
 use borrow.Author.Needs.{needs}
 use Rattle.reader.proofs.read_by.Statement.{statement}
 use Rattle.reader.proofs.read_by.Tie as tie
-use Rattle.reader.proofs.read_by.Reads as reads
-use Rattle.reader.proofs.read_by.Lts as lts
-use Rattle.reader.proofs.tally_frames.Reads as tally-frames-reads
-use Rattle.reader.proofs.tally_words.Reads as tally-words-reads
-use Rattle.reader.proofs.verdict.Reads as verdict-reads
-use Rattle.reader.proofs.write_frames.Reads as write-frames-reads
 
 tally-words-requires : tie.Need-tally-words-requires
 tally-words-requires c κs = search needs

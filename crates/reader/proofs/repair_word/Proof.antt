@@ -8,9 +8,6 @@ use Rattle.hamming.proofs.Tabled.{by-repair}
 use borrow.Author.Needs.{needs}
 use Rattle.reader.proofs.repair_word.Statement.{statement}
 use Rattle.reader.proofs.repair_word.Tie as tie
-use Rattle.reader.proofs.repair_word.Reads as reads
-use Rattle.reader.proofs.repair_word.Lts as lts
-use Rattle.hamming.proofs.repair_by.Reads as repair-by-reads
 
 repair-by-requires : tie.Need-repair-by-requires
 repair-by-requires c κs = search needs

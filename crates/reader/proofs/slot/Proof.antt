@@ -4,8 +4,6 @@ use Rattle.line.specs.Slots.{delay, slotOf}
 use borrow.Author.Needs.{needs}
 use Rattle.reader.proofs.slot.Statement.{statement}
 use Rattle.reader.proofs.slot.Tie as tie
-use Rattle.reader.proofs.slot.Reads as reads
-use Rattle.reader.proofs.slot.Lts as lts
 
 sub-result : tie.Need-sub-result
 sub-result c = search needs

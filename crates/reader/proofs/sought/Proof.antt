@@ -1,13 +1,11 @@
 -- `reader::sought` meets its contract. Assumes nothing.
-use Prim.Native.Nat.{ℕ, _+_}
+use Prim.Native.Nat.{_+_}
 use mathlib.Core.Bool.{Bool, cond}
 use mathlib.Core.Path.{sym, ap, _∙_}
 use Rattle.reader.proofs.Searching.{sought-old, sought-new}
 use borrow.Author.Needs.{needs}
 use Rattle.reader.proofs.sought.Statement.{statement}
 use Rattle.reader.proofs.sought.Tie as tie
-use Rattle.reader.proofs.sought.Reads as reads
-use Rattle.reader.proofs.sought.Lts as lts
 
 returns : tie.Need-returns
 returns c = let a = c .before .args in sym (sought-old (a .x) (a .k) (a .here) (c .if1 .taken))

@@ -1,14 +1,8 @@
 -- `reader::take_block` meets its contract. Assumes nothing.
-use mathlib.Core.Path.{sym, ap, _∙_}
 use Rattle.reader.specs.Parts.{blockTaken}
 use borrow.Author.Needs.{needs}
 use Rattle.reader.proofs.take_block.Statement.{statement}
 use Rattle.reader.proofs.take_block.Tie as tie
-use Rattle.reader.proofs.take_block.Reads as reads
-use Rattle.reader.proofs.take_block.Lts as lts
-use Rattle.reader.proofs.is_crc_off.Reads as is-crc-off-reads
-use Rattle.reader.proofs.is_mbas_off.Reads as is-mbas-off-reads
-use Rattle.reader.proofs.sought.Reads as sought-reads
 
 mul-t : tie.Need-mul-t
 mul-t c = search needs

@@ -4,9 +4,6 @@ use Rattle.bits.proofs.LoopLaws.{Folded, loops}
 use Rattle.reader.specs.Parts.{blockTaken}
 use Rattle.reader.proofs.take_blocks.Statement.{statement}
 use Rattle.reader.proofs.take_blocks.Tie as tie
-use Rattle.reader.proofs.take_blocks.Reads as reads
-use Rattle.reader.proofs.take_blocks.Lts as lts
-use Rattle.reader.proofs.take_block.Reads as take-block-reads
 
 abbrev Inv-loop : tie.InvT-loop
 Inv-loop crcs m0 s f y₀ b₀ y b = Folded (blockTaken m0 s f) y₀ b y × (b ≤ 5)

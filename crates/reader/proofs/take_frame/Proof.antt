@@ -6,12 +6,6 @@ use Rattle.reader.proofs.Blocks.{frame-more}
 use borrow.Author.Needs.{needs}
 use Rattle.reader.proofs.take_frame.Statement.{statement}
 use Rattle.reader.proofs.take_frame.Tie as tie
-use Rattle.reader.proofs.take_frame.Reads as reads
-use Rattle.reader.proofs.take_frame.Lts as lts
-use Rattle.reader.proofs.frame.Reads as frame-reads
-use Rattle.reader.proofs.is_pad_off.Reads as is-pad-off-reads
-use Rattle.reader.proofs.sought.Reads as sought-reads
-use Rattle.reader.proofs.take_blocks.Reads as take-blocks-reads
 
 frame-requires : tie.Need-frame-requires
 frame-requires c κs = search needs

@@ -10,10 +10,6 @@ use Rattle.reader.specs.Parts.{framesTo}
 use Rattle.reader.proofs.Blocks.{frames-none}
 use Rattle.reader.proofs.tally_frames.Statement.{statement}
 use Rattle.reader.proofs.tally_frames.Tie as tie
-use Rattle.reader.proofs.tally_frames.Reads as reads
-use Rattle.reader.proofs.tally_frames.Lts as lts
-use Rattle.crc.proofs.table.Reads as table-reads
-use Rattle.reader.proofs.take_frame.Reads as take-frame-reads
 
 abbrev Inv-loop : tie.InvT-loop
 Inv-loop t positions scr n m0 capture buffer₀ crcs x₀ f₀ buffer x f = (x ≡ framesTo m0 capture f) × (f ≤ n) × (length buffer ≡ superBytes)

@@ -8,9 +8,6 @@ use Rattle.reader.specs.Parts.{wordsTo}
 use Rattle.reader.proofs.Searching.{words-none}
 use Rattle.reader.proofs.tally_words.Statement.{statement}
 use Rattle.reader.proofs.tally_words.Tie as tie
-use Rattle.reader.proofs.tally_words.Reads as reads
-use Rattle.reader.proofs.tally_words.Lts as lts
-use Rattle.reader.proofs.take_word.Reads as take-word-reads
 
 abbrev Inv-loop : tie.InvT-loop
 Inv-loop t positions n capture s₀ w₀ w-end s w = (s ≡ wordsTo n capture w) × (w ≤ 10976 * n + 480)

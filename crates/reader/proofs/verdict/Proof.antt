@@ -4,10 +4,6 @@ use Rattle.reader.specs.Parts.{verdictOf}
 use borrow.Author.Needs.{needs}
 use Rattle.reader.proofs.verdict.Statement.{statement}
 use Rattle.reader.proofs.verdict.Tie as tie
-use Rattle.reader.proofs.verdict.Reads as reads
-use Rattle.reader.proofs.verdict.Lts as lts
-use Rattle.answer.proofs.granted.Reads as granted-reads
-use Rattle.answer.proofs.refuse.Reads as refuse-reads
 
 mul-if1 : tie.Need-mul-if1
 mul-if1 c = search needs

@@ -1,20 +1,15 @@
 -- `reader::write_blocks` meets its contract: a block a turn. Assumes nothing.
 use lib.ListN.{length, take, drop}
-use Rattle.bits.specs.Bits.{bitAt, from}
+use Rattle.bits.specs.Bits.{bitAt, from, byteOf}
 use Rattle.reader.proofs.Places.{info-byte, parity-byte, part-long, filled-part}
 use Prim.Native.Nat.{_+_, _-_, _*_, _≤_}
-use mathlib.Core.Path.{_≡_, ap, _∙_}
 use native.Mathlib.Omega.{arith}
 use denote.Ref.{now}
 use borrow.Author.Needs.{needs}
-use Rattle.bits.specs.Bits.{byteOf}
-use Rattle.bits.proofs.Lists.{Filled, filled-none, filled-block, filled-all}
+use Rattle.bits.proofs.Lists.{Filled, filled-none, filled-all}
 use Rattle.reader.specs.Parts.{infoIn, parityIn}
 use Rattle.reader.proofs.write_blocks.Statement.{statement}
 use Rattle.reader.proofs.write_blocks.Tie as tie
-use Rattle.reader.proofs.write_blocks.Reads as reads
-use Rattle.reader.proofs.write_blocks.Lts as lts
-use Rattle.reader.proofs.copy_bits.Reads as copy-bits-reads
 
 abbrev Inv-loop : tie.InvT-loop
 Inv-loop s info₀ parity₀ b₀ info parity b = Filled (30583 * b) (byteOf (infoIn s)) info₀ info × Filled (2048 * b) (byteOf (parityIn s)) parity₀ parity × (b ≤ 5)

@@ -1,24 +1,19 @@
 -- `reader::write_frames` meets its contract: a super frame a turn. Assumes nothing.
-use Rattle.reader.proofs.Places.{info-whole, parity-whole, filled-part}
+use Rattle.reader.proofs.Places.{info-whole, parity-whole, filled-part, infoAll, parityAll}
 use Prim.Native.Nat.{_+_, _-_, _*_, _≤_}
-use mathlib.Core.Path.{_≡_, ap, _∙_}
+use mathlib.Core.Path.{_≡_}
 use native.Mathlib.Omega.{arith}
 use denote.Ref.{now}
 use lib.ListN.{length}
 use borrow.Author.Needs.{needs}
 use Rattle.bits.specs.Bits.{byteOf}
-use Rattle.bits.proofs.Lists.{Filled, filled-none, filled-block, filled-all}
+use Rattle.bits.proofs.Lists.{Filled, filled-none, filled-all}
 use Rattle.line.specs.Sizes.{superBytes}
 use Rattle.line.specs.Frames.{infoOf, parityOf}
 use Rattle.line.specs.Words.{fecIn}
 use Rattle.reader.specs.Read.{repaired}
-use Rattle.reader.proofs.Places.{infoAll, parityAll}
 use Rattle.reader.proofs.write_frames.Statement.{statement}
 use Rattle.reader.proofs.write_frames.Tie as tie
-use Rattle.reader.proofs.write_frames.Reads as reads
-use Rattle.reader.proofs.write_frames.Lts as lts
-use Rattle.reader.proofs.frame.Reads as frame-reads
-use Rattle.reader.proofs.write_blocks.Reads as write-blocks-reads
 
 abbrev Inv-loop : tie.InvT-loop
 Inv-loop t positions scr n capture buffer₀ info₀ parity₀ f₀ buffer info parity f = Filled (152915 * f) (byteOf (infoAll (fecIn (repaired capture)))) info₀ info × Filled (10240 * f) (byteOf (parityAll (fecIn (repaired capture)))) parity₀ parity × (f ≤ n) × (length buffer ≡ superBytes)

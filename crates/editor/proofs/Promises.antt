@@ -1,0 +1,179 @@
+-- What an edit promises: which number is answered, exactly; which words are listed, and how many; what every word holds afterwards.
+-- Assumes nothing.
+use Prim.Native.Nat.{ℕ, _+_, _-_, _*_, _/_, _%_, _≤_, _<_}
+use mathlib.Core.Bool.{true, false}
+use mathlib.Core.Path.{_≡_, refl, sym, ap, _∙_}
+use mathlib.Core.List.{List}
+use native.Mathlib.Omega.{arith}
+use lib.ListN.{length, getD}
+use Rattle.bits.specs.Loops.{count}
+use Rattle.bits.proofs.Common.{by-bound}
+use Rattle.answer.specs.Numbers.{allDone}
+use Rattle.answer.specs.Rows.{Row, done, refused, Applies, Least, rising}
+use Rattle.answer.proofs.Table.{answered-least, least-answered, answered-done, done-answered, refusal-count}
+use Rattle.line.specs.Sizes.{fecBlocks, elementBits, superElements, fecElements, infoElements, captureLength, words}
+use Rattle.line.specs.Slots.{slotOf, elementIn}
+use Rattle.line.specs.Words.{wordAt, symbolAt, wordIn, wordsOf, fecIn}
+use Rattle.line.proofs.SlotLaws.{element-slot, slot-lt, slot-once, holds-slot}
+use Rattle.line.proofs.WordLaws.{word-laid, word-lt, word-symbol, symbol-lt, place-back}
+use Rattle.editor.specs.Edit.{blocksOf, fecOf, blockFrom, editedFec, elementFec, elementLocal, touches, listed, listOf, editedWord, editedCapture, editRows, editAnswer}
+use Rattle.editor.proofs.Touching.{element-tail, element-block, touches-some}
+use Rattle.editor.proofs.Picking.{length-picked, picked-entry, picked-rises, picked-room, picked-has, count-few, count-many}
+use Rattle.editor.proofs.Listing.{start, own, own-tail, own-block, slotNo, listedCount, listed-slot, listed-count-ge, listed-count-le, holding-listed}
+use Rattle.editor.proofs.Passes.{edited-long, edited-kept}
+
+-- ---- the numbers handed back
+
+module _ (N b : ℕ) (bits parity cap list : List ℕ) where
+  abbrev rows : List Row
+  rows = editRows N b bits parity cap list
+
+  rows-rise : rising 0 (editRows N b bits parity cap list) ≡ true
+  unfolding rising editRows
+  rows-rise = refl
+
+  -- EXACTLY: number k at place p is answered exactly if row k holds at p and nothing smaller does
+  pub edit-exactly : (k p : ℕ) → 0 < k → (editAnswer N b bits parity cap list ≡ refused k p → Least rows k p) × (Least rows k p → editAnswer N b bits parity cap list ≡ refused k p)
+  unfolding editAnswer
+  edit-exactly k p h = (answered-least rows (count (listed N b) (words N)) rows-rise k p h, least-answered rows (count (listed N b) (words N)) rows-rise k p)
+
+  -- a refusal has count 0
+  pub edit-refusal : (editAnswer N b bits parity cap list .number ≡ allDone → ⊥) → editAnswer N b bits parity cap list .count ≡ 0
+  unfolding editAnswer
+  edit-refusal = refusal-count rows (count (listed N b) (words N)) rows-rise
+
+  -- DONE: exactly if nothing applies; the count is how many words are listed
+  pub edit-done : (editAnswer N b bits parity cap list .number ≡ allDone → (editAnswer N b bits parity cap list ≡ done (count (listed N b) (words N))) × ((k p : ℕ) → Applies rows k p → ⊥))
+      × (((k p : ℕ) → Applies rows k p → ⊥) → editAnswer N b bits parity cap list ≡ done (count (listed N b) (words N)))
+  unfolding editAnswer
+  edit-done = (answered-done rows (count (listed N b) (words N)) rows-rise, done-answered rows (count (listed N b) (words N)) rows-rise)
+
+-- ---- the list
+
+-- each of the numbered local elements holds a touched bit, and they differ
+own-lt : (b k : ℕ) → k < listedCount b → own b k < fecElements
+unfolding listedCount
+own-lt b k h =
+    by-bound 138 k (λ l. rw (own-tail b k l) (omega arith))
+    (λ l. let e : k ≡ 138 + (k - 138) = omega arith in rw (e, own-block b (k - 138)) (omega arith))
+
+own-touched : (b k : ℕ) → k < listedCount b → touches b (elementBits * own b k) elementBits ≡ true
+unfolding listedCount
+own-touched b k h =
+    by-bound 138 k (λ l. rw (own-tail b k l) (element-tail b (infoElements + k) (omega arith)))
+    (λ l. let e : k ≡ 138 + (k - 138) = omega arith in
+    rw (e, own-block b (k - 138)) (element-block b (blockFrom b / elementBits + (k - 138)) (omega arith) (omega arith)))
+
+own-differ : (b i j : ℕ) → i < j → j < listedCount b → own b i ≡ own b j → ⊥
+unfolding listedCount
+own-differ b i j h l q =
+    by-bound 138 j
+    (λ m. let p = own-tail b i (omega arith) in let r = own-tail b j m in omega (arith, p, r))
+    (λ m. let e : j ≡ 138 + (j - 138) = omega arith in
+    let r : own b j ≡ blockFrom b / elementBits + (j - 138) = ap (own b) e ∙ own-block b (j - 138) in
+    by-bound 138 i (λ n. let p = own-tail b i n in omega (arith, p, r))
+    (λ n. let d : i ≡ 138 + (i - 138) = omega arith in
+    let p : own b i ≡ blockFrom b / elementBits + (i - 138) = ap (own b) d ∙ own-block b (i - 138) in
+    omega (arith, p, r)))
+
+-- local element m of FEC block c of super frame f
+module _ (f c m : ℕ) (hc : c < fecBlocks) (hm : m < fecElements) where
+  at-mod : (superElements * f + fecElements * c + m) % superElements ≡ fecElements * c + m
+  at-mod = omega arith
+
+  at-div : (superElements * f + fecElements * c + m) / superElements ≡ f
+  at-div = omega arith
+
+  at-fec : elementFec (superElements * f + fecElements * c + m) ≡ fecBlocks * f + c
+  unfolding elementFec
+  at-fec = rw (at-mod, at-div) (omega arith)
+
+  at-local : elementLocal (superElements * f + fecElements * c + m) ≡ m
+  unfolding elementLocal
+  at-local = rw at-mod (omega arith)
+
+module _ (N b : ℕ) (within : b < blocksOf N) where
+  own-element : (m : ℕ) → m < fecElements → (start b + m < superElements * N) × ((start b + m) % superElements < fecElements * fecBlocks)
+  own-element m h =
+      let e = at-mod (fecOf b / fecBlocks) (fecOf b % fecBlocks) m (omega arith) h in (omega arith, rw e (omega arith))
+
+  own-fec : (m : ℕ) → m < fecElements → (elementFec (start b + m) ≡ fecOf b) × (elementLocal (start b + m) ≡ m)
+  own-fec m h = (
+    at-fec (fecOf b / fecBlocks) (fecOf b % fecBlocks) m (omega arith) h ∙ (omega arith),
+    at-local (fecOf b / fecBlocks) (fecOf b % fecBlocks) m (omega arith) h,
+  )
+
+  slot-listed : (k : ℕ) → k < listedCount b → (slotNo b k < words N) × (listed N b (slotNo b k) ≡ true)
+  unfolding slotNo
+  slot-listed k h =
+      let m = own-lt b k h in
+      let e = start b + own b k in
+      let x = own-element (own b k) m in
+      let y = own-fec (own b k) m in
+      let t : touches b (elementBits * elementLocal (elementIn (slotOf e))) elementBits ≡ true = rw (element-slot e, y .1) (own-touched b k h) in (
+        slot-lt N e (x .0),
+        holding-listed N b (slotOf e) (record {
+          element = holds-slot N e (x .0);
+          no-pad = rw (element-slot e) (x .1);
+          block = rw (element-slot e) (y .0);
+          touch = touches-some b (elementBits * elementLocal (elementIn (slotOf e))) elementBits t;
+        }),
+      )
+
+  slots-differ : (i j : ℕ) → i < j → j < listedCount b → slotNo b i ≡ slotNo b j → ⊥
+  unfolding slotNo
+  slots-differ i j h l q = own-differ b i j h l (let s = slot-once (start b + own b i) (start b + own b j) q in omega (arith, s))
+
+  -- HOW MANY: 138 for CRC and parity, and the three or four elements of the client block
+  pub listed-exactly : count (listed N b) (words N) ≡ listedCount b
+  listed-exactly =
+      let few = count-few (slotNo b) (listedCount b) (listed N b) (words N) (listed-slot N b) in
+      let many = count-many (slotNo b) (listedCount b) (listed N b) (words N) slot-listed slots-differ in
+      omega arith
+
+-- THE LIST: as long as the count, 141 or 142; strictly rising; only listed words, and each of them
+pub record Lists (N b : ℕ) (l : List ℕ) : Type 0 where
+  pub long : length l ≡ count (listed N b) (words N)
+  pub at-least : 141 ≤ length l
+  pub at-most : length l ≤ 142
+  pub rises : (i j : ℕ) → i < j → j < length l → getD l i 0 < getD l j 0
+  pub only : (i : ℕ) → i < length l → (getD l i 0 < words N) × (listed N b (getD l i 0) ≡ true)
+  pub each : (w : ℕ) → w < words N → listed N b w ≡ true → (count (listed N b) w < length l) × (getD l (count (listed N b) w) 0 ≡ w)
+
+pub list-is : (N b : ℕ) → b < blocksOf N → Lists N b (listOf N b)
+unfolding listOf
+list-is N b h =
+    let p = listed N b in
+    let n = words N in
+    let e = length-picked p n in
+    let c = listed-exactly N b h in
+    record {
+      long = e;
+      at-least = omega (arith, e, c, listed-count-ge b);
+      at-most = omega (arith, e, c, listed-count-le b);
+      rises = λ i j l m. picked-rises p n i j l (rw (length-picked p n) at m);
+      only = λ i l. let r = picked-entry p n i (rw (length-picked p n) at l) in (r .below, r .picks);
+      each = λ w l q. (rw (length-picked p n) (picked-room p n w l q), picked-has p n w l q);
+    }
+
+-- ---- the words, in any capture
+
+module _ (N b : ℕ) (bits parity cap : List ℕ) where
+  word-after : (w : ℕ) → w < words N → wordIn (editedCapture N b bits parity cap) w ≡ editedWord N b bits parity cap w
+  unfolding editedCapture
+  word-after w h = word-laid N (editedWord N b bits parity cap) w h (edited-long N b bits parity cap w)
+
+  -- a listed word is the word of the edited FEC block, check bits and all
+  pub word-edited : (w : ℕ) → w < words N → listed N b w ≡ true → wordIn (editedCapture N b bits parity cap) w ≡ wordsOf N (editedFec b bits parity (fecIn (wordIn cap))) w
+  unfolding editedWord
+  word-edited w h e = word-after w h ∙ rw e
+
+  -- every other word keeps every byte
+  pub word-kept : (w : ℕ) → w < words N → listed N b w ≡ false → wordIn (editedCapture N b bits parity cap) w ≡ wordIn cap w
+  word-kept w h e = word-after w h ∙ edited-kept N b bits parity cap w e
+
+  pub byte-kept : (i : ℕ) → i < captureLength N → listed N b (wordAt i) ≡ false → getD (editedCapture N b bits parity cap) i 0 ≡ getD cap i 0
+  byte-kept i h e =
+      let s = editedCapture N b bits parity cap in
+      let at : (c : List ℕ) → getD (wordIn c (wordAt i)) (symbolAt i) 0 ≡ getD c i 0 = λ c. word-symbol c (wordAt i) (symbolAt i) (symbol-lt i) ∙ ap (λ (x : ℕ). getD c x 0) (place-back i) in
+      sym (at s) ∙ ap (λ (v : List ℕ). getD v (symbolAt i) 0) (word-kept (wordAt i) (word-lt N i h) e) ∙ at cap

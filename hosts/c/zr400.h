@@ -1,0 +1,85 @@
+/* The 400ZR line coder for C and C++: the functions of the proved library libzr400.
+ *
+ * N, m0, t, c, j, f, n and block are whole numbers as document 01 (the scope) names them. Bits are packed first bit in
+ * the top bit of the first byte. A buffer is a pointer and its length: in bytes, and for `list` in numbers of 64 bits.
+ * A buffer of length 0 may be a null pointer. Two buffers of one call must not overlap where one of them is written.
+ * The library keeps no state, allocates nothing and calls nothing back: any number of threads may use it at once, each
+ * with about one MiB of stack.
+ *
+ * Every call answers a number. 0 is "done"; any other number is a refusal, and a refusal changes no byte of any buffer.
+ *
+ *   no.  given exactly when                            place
+ *   0    done                                          0
+ *   1    a number is outside its stated set            0
+ *   2    a buffer's length is not the stated one       0
+ *   3    a spare bit is not zero                       0
+ *   4    reading: a word beyond repair                 word
+ *   5    reading: a filler word not zero after repair  word
+ *   6    reading: MBAS not the expected number         FEC block of the capture
+ *   7    reading: CRC wrong                            FEC block of the capture
+ *   8    reading: pad not zero                         super frame
+ *   9    edit: a word to be listed fails a check       word
+ *
+ * If several apply, the smallest number is given, then the smallest place. Words, FEC blocks and super frames count
+ * from 0. The count of a refusal is 0.
+ */
+#ifndef ZR400_H
+#define ZR400_H
+
+#include <stddef.h>
+#include <stdint.h>
+
+#ifdef __cplusplus
+extern "C" {
+#endif
+
+/* Places in an envelope, and the lengths that the calls ask for. A capture has N = 1..8 super frames. */
+#define ZR400_PLACES 10220u
+#define ZR400_BLOCK_INFORMATION_BYTES 30583u                          /* of one FEC block */
+#define ZR400_BLOCK_PARITY_BYTES 2048u                                /* of one FEC block */
+#define ZR400_CLIENT_BYTES 33u                                        /* a client block: 257 bits, then seven zero bits */
+#define ZR400_LIST_LENGTH 145u                                        /* numbers in the list of an edit */
+#define ZR400_INFORMATION_BYTES(N) ((size_t)152915 * (N))
+#define ZR400_PARITY_BYTES(N) ((size_t)10240 * (N))
+#define ZR400_CAPTURE_BYTES(N) ((size_t)175616 * (N) + 7680)
+#define ZR400_WORDS(N) ((size_t)10976 * (N) + 480)
+#define ZR400_WINDOW_BYTES(n) ((size_t)257 * (n) / 2)                 /* n places, n even */
+#define ZR400_GROUPS_BYTES(d) (((size_t)257 * (d) + 1) / 2)           /* d data places */
+
+typedef struct { uint64_t number, place, count; } zr_answer;
+typedef struct { uint64_t number, kind, last; } zr_run;               /* kind 0 stuff, 1 data */
+
+/* The kind of place j (1..10,220) under the count c (0..10,220), and the last place of its run. Refused: stuff, 0. */
+zr_run zr400_run(uint64_t c, uint64_t j);
+
+/* How many runs there are from place j to 10,220, what is left of j's own run counting as one: in `count`. */
+zr_answer zr400_runs(uint64_t c, uint64_t j);
+
+/* Fills the window of n places from place f on with the groups and, at stuff places, zeros; the count is the number of groups. */
+zr_answer zr400_map(uint64_t c, uint64_t f, uint64_t n, const uint8_t *groups, size_t groups_length, uint8_t *window,
+                    size_t window_length);
+
+/* Takes the groups out of such a window again and ignores stuff; the count is the number of groups. */
+zr_answer zr400_unmap(uint64_t c, uint64_t f, uint64_t n, const uint8_t *window, size_t window_length, uint8_t *groups,
+                      size_t groups_length);
+
+/* Whether FEC block t of N super frames may be asked for: if done, its 30,583 bytes begin at info + 30583 * t. */
+zr_answer zr400_information(uint64_t n, uint64_t t, const uint8_t *info, size_t info_length);
+
+/* Codes information and parity of N super frames into the capture, MBAS counting from m0; the count is the words written. */
+zr_answer zr400_code(uint64_t n, uint64_t m0, const uint8_t *info, size_t info_length, const uint8_t *parity,
+                     size_t parity_length, uint8_t *capture, size_t capture_length);
+
+/* Reads a capture back, repairing one wrong bit in each word; the count is the words whose checks were not zero. */
+zr_answer zr400_read(uint64_t n, uint64_t m0, const uint8_t *capture, size_t capture_length, uint8_t *info,
+                     size_t info_length, uint8_t *parity, size_t parity_length);
+
+/* Replaces one client block and its FEC block's parity in the capture, and lists the words it wrote; the count is their number. */
+zr_answer zr400_edit(uint64_t n, uint64_t block, const uint8_t *bits, size_t bits_length, const uint8_t *parity,
+                     size_t parity_length, uint8_t *capture, size_t capture_length, uint64_t *list, size_t list_length);
+
+#ifdef __cplusplus
+}
+#endif
+
+#endif

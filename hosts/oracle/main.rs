@@ -1,0 +1,244 @@
+//! The second program asked for calls that a seed chooses: it prints what `hosts/c/check.c` prints for `random SEED`.
+//! Built by hosts/check from the sources in second/src; hosts/c/random.h makes the same choices, number for number.
+#![allow(dead_code)]
+
+#[path = "../../second/src/answer.rs"]
+mod answer;
+#[path = "../../second/src/bits.rs"]
+mod bits;
+#[path = "../../second/src/capture.rs"]
+mod capture;
+#[path = "../../second/src/fec.rs"]
+mod fec;
+#[path = "../../second/src/generator.rs"]
+mod generator;
+#[path = "../../second/src/gmp.rs"]
+mod gmp;
+#[path = "../../second/src/hamming.rs"]
+mod hamming;
+#[path = "../../second/src/interleaver.rs"]
+mod interleaver;
+#[path = "../../second/src/super_frame.rs"]
+mod super_frame;
+#[path = "../../second/src/symbols.rs"]
+mod symbols;
+
+use answer::Answer;
+use generator::{digest, digest_of_numbers, Generator};
+
+fn shown(a: Answer) -> String {
+    format!("number {} place {} count {}", a.number, a.place, a.count)
+}
+
+/// A number that is often just at, or far beyond, the edge of 0..limit.
+fn nasty(g: &mut Generator, limit: u64) -> u64 {
+    match g.below(8) {
+        0 => 0,
+        1 => 1,
+        2 => limit,
+        3 => limit + 1,
+        4 => u64::MAX,
+        5 => g.number(),
+        _ => g.below(limit + 1),
+    }
+}
+
+fn random_place(g: &mut Generator) {
+    let c = nasty(g, 10_220);
+    let j = nasty(g, 10_220);
+    let (a, kind, last) = gmp::run_at(c, j);
+    let name = if kind == gmp::Kind::Data { "data" } else { "stuff" };
+    println!("C {} place {} run: {} {} last {}", c, j, shown(a), name, last);
+    println!("C {} place {} runs: {}", c, j, shown(gmp::count_runs(c, j)));
+}
+
+fn random_window(g: &mut Generator) {
+    let c = nasty(g, 10_220);
+    let (f, n) = if g.below(4) == 0 {
+        let f = nasty(g, 10_220);
+        (f, nasty(g, 10_220))
+    } else {
+        let f = 1 + 2 * g.below(5_000);
+        (f, 2 + 2 * g.below(20))
+    };
+    let small = c <= 10_220 && f <= 10_220 && n <= 10_220;
+    let stated = small && f % 2 == 1 && n % 2 == 0 && n >= 2 && f + n - 1 <= 10_220;
+    let d = if stated { gmp::data_places(c, f, n) } else { g.below(5) };
+    let mut groups_length = gmp::groups_length(d) as usize;
+    let mut window_length = if stated { gmp::window_length(n) as usize } else { 257 };
+    match g.below(8) {
+        0 => groups_length = 0,
+        1 => groups_length += 1,
+        2 => window_length = 0,
+        3 => window_length -= 1,
+        _ => {}
+    }
+    let mut groups = g.bytes(groups_length);
+    let mut window = g.bytes(window_length);
+    if g.below(4) != 0 && groups_length > 0 {
+        groups[groups_length - 1] &= 0xf0;
+    }
+    println!("window C {} f {} n {} groups {} window {}", c, f, n, groups_length, window_length);
+    let a = gmp::map(c, f, n, &groups, &mut window);
+    println!("map: {} window {}", shown(a), digest(&window));
+    let window = g.bytes(window_length);
+    let mut groups = g.bytes(groups_length);
+    let a = gmp::unmap(c, f, n, &window, &mut groups);
+    println!("unmap: {} groups {}", shown(a), digest(&groups));
+}
+
+fn random_part(g: &mut Generator) {
+    let n = nasty(g, 8);
+    let t = nasty(g, 39);
+    let mut length = capture::information_length(if n >= 1 && n <= 8 { n } else { 1 });
+    match g.below(4) {
+        0 => length = 0,
+        1 => length -= 1,
+        _ => {}
+    }
+    let information = g.bytes(length);
+    let (a, part) = capture::part(n, t, &information);
+    println!(
+        "part N {} t {} of {}: {} bytes {} digest {}",
+        n,
+        t,
+        length,
+        shown(a),
+        part.len(),
+        digest(part)
+    );
+}
+
+fn flip(captured: &mut [u8], w: usize, bit: usize) {
+    let mut word = symbols::get_word(captured, w);
+    word[bit] = !word[bit];
+    symbols::put_word(captured, w, &word);
+}
+
+/// Turns an element bit of a word and makes its check bits anew.
+fn turn_word(captured: &mut [u8], w: usize, bit: usize) {
+    flip(captured, w, bit);
+    let element = symbols::get_word(captured, w)[0..super_frame::ELEMENT_BITS].to_vec();
+    symbols::put_word(captured, w, &hamming::Matrix::new().encode(&element));
+}
+
+/// Damages a capture of `words` words, and gives the m0 to read it with.
+fn random_damage(g: &mut Generator, captured: &mut [u8], words: u64, m0: u64) -> u64 {
+    let mut m0 = m0;
+    let kind = g.below(6);
+    match kind {
+        1 => {
+            for w in 0..words {
+                let bit = g.below(128);
+                flip(captured, w as usize, bit as usize);
+            }
+        }
+        2 => {
+            let w = g.below(words) as usize;
+            let bit = g.below(128);
+            flip(captured, w, bit as usize);
+            flip(captured, w, ((bit + 1 + g.below(127)) % 128) as usize);
+        }
+        3 | 5 => {
+            for _ in 3..=kind {
+                let w = if g.below(2) == 0 { g.below(480) } else { g.below(words) };
+                let bit = g.below(119);
+                turn_word(captured, w as usize, bit as usize);
+            }
+        }
+        4 => m0 = (m0 % 64 + 1 + g.below(63)) % 64,
+        _ => {}
+    }
+    println!("damage {}, read with m0 {}", kind, m0);
+    m0
+}
+
+fn random_edit(g: &mut Generator, n: u64, blocks: u64, captured: &mut [u8]) {
+    let block = if g.below(4) == 0 {
+        nasty(g, blocks - 1)
+    } else {
+        g.below(blocks)
+    };
+    let (mut bits_length, mut parity_length, mut list_length) = (33, 2_048, capture::LIST_LENGTH);
+    match g.below(12) {
+        0 => bits_length = 0,
+        1 => parity_length = 0,
+        2 => list_length = 0,
+        3 => list_length = 146,
+        _ => {}
+    }
+    let mut bits = g.bytes(bits_length);
+    let parity = g.bytes(parity_length);
+    if g.below(5) != 0 && bits_length > 0 {
+        bits[32] &= 0x80;
+    }
+    let mut list: Vec<u64> = (0..list_length).map(|_| g.number()).collect();
+    let a = capture::edit(n, block, &bits, &parity, captured, &mut list);
+    println!(
+        "edit N {} block {} of {} {} {}: {}",
+        n,
+        block,
+        bits_length,
+        parity_length,
+        list_length,
+        shown(a)
+    );
+    println!("edit: capture {} list {}", digest(captured), digest_of_numbers(&list));
+}
+
+fn random_capture(g: &mut Generator) {
+    let n = if g.below(5) == 0 { nasty(g, 8) } else { 1 + g.below(2) };
+    let m0 = if g.below(5) == 0 { nasty(g, 63) } else { g.below(64) };
+    let k = if n >= 1 && n <= 8 { n } else { 1 };
+    let mut information_length = capture::information_length(k);
+    let mut parity_length = capture::parity_length(k);
+    let mut capture_length = capture::capture_length(k);
+    match g.below(12) {
+        0 => information_length = 0,
+        1 => parity_length = 0,
+        2 => capture_length = 0,
+        3 => information_length += 1,
+        4 => parity_length -= 1,
+        5 => capture_length += 1,
+        _ => {}
+    }
+    let mut information = g.bytes(information_length);
+    let mut parity = g.bytes(parity_length);
+    let mut captured = g.bytes(capture_length);
+    let a = capture::code(n, m0, &information, &parity, &mut captured);
+    println!(
+        "code N {} m0 {} of {} {} {}: {} capture {}",
+        n,
+        m0,
+        information_length,
+        parity_length,
+        capture_length,
+        shown(a),
+        digest(&captured)
+    );
+    let mut m0 = m0;
+    if capture_length == capture::capture_length(k) {
+        m0 = random_damage(g, &mut captured, interleaver::words(k as usize) as u64, m0);
+    }
+    let a = capture::read(n, m0, &captured, &mut information, &mut parity);
+    println!("read: {}", shown(a));
+    println!("read: information {} parity {}", digest(&information), digest(&parity));
+    random_edit(g, n, 4_760 * k, &mut captured);
+}
+
+fn main() {
+    let seed = std::env::args().nth(1).and_then(|word| word.parse().ok());
+    let g = &mut Generator::new(seed.expect("usage: oracle SEED"));
+    for _ in 0..150 {
+        random_place(g);
+    }
+    for _ in 0..100 {
+        random_window(g);
+    }
+    for _ in 0..20 {
+        random_part(g);
+    }
+    for _ in 0..16 {
+        random_capture(g);
+    }
+}
