@@ -25,7 +25,7 @@ fn make(n: u64, info: &mut [u8], parity: &mut [u8]) {
 fn coded(n: u64, info: &mut [u8], parity: &mut [u8], capture: &mut [u8]) {
     make(n, info, parity);
     made::fill(made::start(999), capture);
-    let r = coder::code(n, first_number(n), info, parity, capture);
+    let r = capture::code(n, first_number(n), info, parity, capture);
     say(n, r, capture);
 }
 
@@ -69,7 +69,7 @@ fn say_refused(name: &[u8], r: Answer, before: u64, capture: &[u8]) {
 fn refused(name: &[u8], n: u64, m0: u64, info: &[u8], parity: &[u8], capture: &mut [u8]) {
     made::fill(made::start(999), capture);
     let before = made::digest(capture);
-    let r = coder::code(n, m0, info, parity, capture);
+    let r = capture::code(n, m0, info, parity, capture);
     say_refused(name, r, before, capture);
 }
 

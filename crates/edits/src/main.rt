@@ -11,7 +11,7 @@ fn first_number(n: u64) -> u64 {
 fn make(n: u64, info: &mut [u8], parity: &mut [u8], capture: &mut [u8]) {
     let g = made::fill(made::start(100 + n % 9), info);
     made::fill(g, parity);
-    coder::code(n, first_number(n), info, parity, capture);
+    capture::code(n, first_number(n), info, parity, capture);
 }
 
 // Sets the low seven bits of byte 32, which stand behind the 257.
@@ -48,7 +48,7 @@ fn edited(
 ) {
     make_edit(of, spare, bits, parity);
     made::fill_numbers(made::start(996), list);
-    let r = editor::edit(n, block, bits, parity, capture, list);
+    let r = capture::edit(n, block, bits, parity, capture, list);
     say(r, capture, list);
 }
 
@@ -126,7 +126,7 @@ fn replaced(block: u64, info: &mut [u8], parity: &mut [u8]) {
 // Codes afresh what the edit of the block should have left.
 fn afresh(n: u64, block: u64, info: &mut [u8], parity: &mut [u8], other: &mut [u8]) {
     replaced(block, info, parity);
-    coder::code(n, first_number(n), info, parity, other);
+    capture::code(n, first_number(n), info, parity, other);
 }
 
 fn say_edit(n: u64, block: u64, capture: &mut [u8]) {
@@ -152,7 +152,7 @@ fn reads_back(
     info_back: &mut [u8],
     parity_back: &mut [u8],
 ) -> bool {
-    let r = reader::read(n, first_number(n), capture, info_back, parity_back);
+    let r = capture::read(n, first_number(n), capture, info_back, parity_back);
     r.number == 0
         && r.count == 0
         && check::same(info, info_back)
@@ -398,7 +398,7 @@ fn refusals() {
 // An edit of block 6 that is not written: for comparison.
 fn quiet(capture: &mut [u8], bits: &mut [u8], parity: &mut [u8], list: &mut [u64]) {
     make_edit(6, 0, bits, parity);
-    editor::edit(1, 6, bits, parity, capture, list);
+    capture::edit(1, 6, bits, parity, capture, list);
 }
 
 fn quietly(capture: &mut [u8]) {

@@ -1,3 +1,4 @@
--- The laws that the proofs of `made` cite.
+-- The laws of `made`.
 pub mod Halves
 pub mod Steps
+pub mod Unique

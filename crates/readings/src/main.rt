@@ -27,7 +27,7 @@ fn before(info: &mut [u8], parity: &mut [u8]) {
 
 fn reading(n: u64, m0: u64, capture: &[u8], info: &mut [u8], parity: &mut [u8]) {
     before(info, parity);
-    let r = reader::read(n, m0, capture, info, parity);
+    let r = capture::read(n, m0, capture, info, parity);
     say(r, info, parity);
 }
 
@@ -249,7 +249,7 @@ fn others(n: u64, capture: &mut [u8], info: &mut [u8], parity: &mut [u8]) {
 fn make(n: u64, capture: &mut [u8], info: &mut [u8], parity: &mut [u8]) {
     let g = made::fill(made::start(100 + n % 9), info);
     made::fill(g, parity);
-    coder::code(n, first_number(n), info, parity, capture);
+    capture::code(n, first_number(n), info, parity, capture);
 }
 
 fn start(n: u64, capture: &mut [u8], info: &mut [u8], parity: &mut [u8]) {

@@ -1,2 +1,3 @@
--- The law that the proofs of `space` cite.
+-- The laws of `space`.
 pub mod Zeros
+pub mod Unique

@@ -20,7 +20,7 @@ fn edit_listed(
     list: &mut [u64],
 ) {
     made::fill_numbers(made::start(996), list);
-    let r = editor::edit(n, block, bits, parity, capture, list);
+    let r = capture::edit(n, block, bits, parity, capture, list);
     say_edit(block, r, capture, list);
 }
 
@@ -39,7 +39,7 @@ fn say_read(r: Answer, info: &[u8], parity: &[u8]) {
 fn read(n: u64, m0: u64, capture: &[u8], info: &mut [u8], parity: &mut [u8]) {
     made::fill(made::start(998), info);
     made::fill(made::start(997), parity);
-    let r = reader::read(n, m0, capture, info, parity);
+    let r = capture::read(n, m0, capture, info, parity);
     say_read(r, info, parity);
 }
 
@@ -88,7 +88,7 @@ fn make(
 ) -> Generator {
     let g = made::fill(made::start(seed), info);
     let h = made::fill(g, parity);
-    let r = coder::code(n, m0, info, parity, capture);
+    let r = capture::code(n, m0, info, parity, capture);
     say_coded(n, seed, m0, r, capture);
     h
 }

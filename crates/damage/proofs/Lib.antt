@@ -1,0 +1,2 @@
+-- The law of `damage`: its contract has one answer.
+pub mod Unique
