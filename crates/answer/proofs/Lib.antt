@@ -1,3 +1,4 @@
 -- The laws of `specs/`.
 pub mod Table
 pub mod Meets
+pub mod Unique

@@ -25,4 +25,3 @@ meets-done {B} {says} {r} {new} {out} old e h p =
 pub meets-refused : {B : Type 0} {says r : Answer} {old : B} (new : B) → r ≡ says → (r .number ≡ allDone → ⊥) → Outcome says (written says new old) r old
 meets-refused {B} {says} {r} {old} new e h =
     record { told = e; kept = sym (written-refused says new old (λ z. h (ap (λ (x : Answer). x .number) e ∙ z))) }
-

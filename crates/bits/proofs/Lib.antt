@@ -6,4 +6,5 @@ pub mod Xor
 pub mod Tables
 pub mod LoopLaws
 pub mod Counting
+pub mod Unique
 pub mod Common

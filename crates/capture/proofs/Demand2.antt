@@ -67,9 +67,13 @@ zeros : allZero (replicate 16 0) ≡ true
 unfolding allZero
 zeros = refl
 
-none-left : (c : ℕ) → answerOf [] c ≡ done c
+pub none-left : (c : ℕ) → answerOf [] c ≡ done c
 unfolding answerOf
 none-left c = refl
+
+pub right : (n : ℕ) (s : List ℕ) → length s ≡ n → wrong n s ≡ false
+unfolding wrong
+right n s e = ap not (eq-eqb (length s) n e)
 
 -- ---- the damaged capture, read
 
@@ -83,7 +87,7 @@ module _ (N m0 : ℕ) (info par : List ℕ) (flips : Choice) where
   bits : (t : ℕ) → Bits (F t)
   bits t = fec-bits m0 info par t
 
-  clean : (w : ℕ) → checksOf (wordsOf N F w) ≡ 0
+  pub clean : (w : ℕ) → checksOf (wordsOf N F w) ≡ 0
   unfolding wordsOf
   clean w = coded-checks (slotBit N (elementOf (superOf F)) w) (held-bits N F w)
 
@@ -107,7 +111,7 @@ module _ (N m0 : ℕ) (info par : List ℕ) (flips : Choice) where
 
   -- ---- no row applies
 
-  no-4 : (w : ℕ) → w < words N → isBeyond cap w ≡ false
+  pub no-4 : (w : ℕ) → w < words N → isBeyond cap w ≡ false
   unfolding isBeyond
   no-4 w h = rw (damaged-word w h, hurt-at w .found)
 
@@ -115,20 +119,21 @@ module _ (N m0 : ℕ) (info par : List ℕ) (flips : Choice) where
   filler-zero w h true e = refl
   filler-zero w h false e = rw (words-back w h, ← (word-filler N F w e), zeros)
 
-  no-5 : (w : ℕ) → w < words N → isFilled N cap w ≡ false
+  pub no-5 : (w : ℕ) → w < words N → isFilled N cap w ≡ false
   unfolding isFilled
   no-5 w h = filler-zero w h (holds N w) refl
 
-  block-read : (t i : ℕ) → t < fecBlocks * N → i < fecBits → fecIn (repaired cap) t i ≡ F t i
+  pub block-read : (t i : ℕ) → t < fecBlocks * N → i < fecBits → fecIn (repaired cap) t i ≡ F t i
   block-read = fec-read N F (repaired cap) words-back bits
+
+  pub mbas-read : (t : ℕ) → t < fecBlocks * N → num mbasBits (fecIn (repaired cap) t) mbasFrom ≡ mbasOf m0 t
+  mbas-read t h =
+      num-is mbasBits (fecIn (repaired cap) t) mbasFrom (mbasOf m0 t) (mbas-lt m0 t)
+      (λ j l. block-read t (mbasFrom + j) h (omega arith) ∙ fec-mbas m0 info par t j l)
 
   no-6 : (t : ℕ) → t < fecBlocks * N → mbasDiffers m0 cap t ≡ false
   unfolding mbasDiffers
-  no-6 t h =
-      let e : num mbasBits (fecIn (repaired cap) t) mbasFrom ≡ mbasOf m0 t =
-          num-is mbasBits (fecIn (repaired cap) t) mbasFrom (mbasOf m0 t) (mbas-lt m0 t)
-          (λ j l. block-read t (mbasFrom + j) h (omega arith) ∙ fec-mbas m0 info par t j l) in
-      ap not (eq-eqb (num mbasBits (fecIn (repaired cap) t) mbasFrom) (mbasOf m0 t) e)
+  no-6 t h = ap not (eq-eqb (num mbasBits (fecIn (repaired cap) t) mbasFrom) (mbasOf m0 t) (mbas-read t h))
 
   crc-small : (t : ℕ) → blockCrc info t < 2 ^ crcBits
   unfolding blockCrc
@@ -142,16 +147,16 @@ module _ (N m0 : ℕ) (info par : List ℕ) (flips : Choice) where
   unfolding crcDiffers
   no-7 t h =
       let e : num crcBits (fecIn (repaired cap) t) infoBits ≡ blockCrc info t =
-          num-is crcBits (fecIn (repaired cap) t) infoBits (blockCrc info t) (crc-small t)
-          (λ j l. block-read t (infoBits + j) h (omega arith) ∙ fec-crc m0 info par t j l) in
+      num-is crcBits (fecIn (repaired cap) t) infoBits (blockCrc info t) (crc-small t)
+      (λ j l. block-read t (infoBits + j) h (omega arith) ∙ fec-crc m0 info par t j l) in
       ap not (eq-eqb (num crcBits (fecIn (repaired cap) t) infoBits) (crcOf infoBits (fecIn (repaired cap) t)) (e ∙ sym (crc-read t h)))
 
   no-8 : (f : ℕ) → f < N → padDiffers cap f ≡ false
   unfolding padDiffers
   no-8 f h =
       let e : num padBits (superIn (repaired cap) f) padFrom ≡ 0 =
-          num-zero padBits (superIn (repaired cap) f) padFrom
-          (λ j l. super-read N F (repaired cap) words-back bits f (padFrom + j) h (omega arith) ∙ super-pad F f (padFrom + j) (omega arith)) in
+      num-zero padBits (superIn (repaired cap) f) padFrom
+      (λ j l. super-read N F (repaired cap) words-back bits f (padFrom + j) h (omega arith) ∙ super-pad F f (padFrom + j) (omega arith)) in
       ap not (eq-eqb (num padBits (superIn (repaired cap) f) padFrom) 0 e)
 
   -- the count is exact
@@ -164,18 +169,14 @@ module _ (N m0 : ℕ) (info par : List ℕ) (flips : Choice) where
   counted = count-ext (isSeen cap) (chosen flips) (words N) seen-chosen
 
   module _ (input : Input N m0 info par) (info₀ par₀ : List ℕ) (info₀-long : length info₀ ≡ infoLength N) (par₀-long : length par₀ ≡ parityLength N) where
-    right : (n : ℕ) (s : List ℕ) → length s ≡ n → wrong n s ≡ false
-    unfolding wrong
-    right n s e = ap not (eq-eqb (length s) n e)
-
     cap-long : length cap ≡ captureLength N
     unfolding damaged
     cap-long = length-laid N (λ w. hurt (wordIn (captureOf N m0 info par) w) (flips w))
 
-    lengths : (rows : List Row) (c : ℕ)
+    pub lengths-right : (rows : List Row) (c : ℕ)
         → answerOf (buffers wrongLength (wrong (captureLength N) cap ∷ wrong (infoLength N) info₀ ∷ wrong (parityLength N) par₀ ∷ []) ∷ rows) c ≡ answerOf rows c
     unfolding inTurn
-    lengths rows c =
+    lengths-right rows c =
         row-buffers wrongLength (wrong (captureLength N) cap ∷ wrong (infoLength N) info₀ ∷ wrong (parityLength N) par₀ ∷ []) rows c
         ∙ rw (right (captureLength N) cap cap-long, right (infoLength N) info₀ info₀-long, right (parityLength N) par₀ par₀-long)
 
@@ -184,7 +185,7 @@ module _ (N m0 : ℕ) (info par : List ℕ) (flips : Choice) where
     answers-done =
         let c = count (isSeen cap) (words N) in
         row-none _ _ c (λ p l. rw (input .frames, input .number))
-        ∙ lengths _ c
+        ∙ lengths-right _ c
         ∙ row-none _ _ c no-4
         ∙ row-none _ _ c no-5
         ∙ row-none _ _ c no-6

@@ -37,30 +37,31 @@ pub fn information_answer(n: u64, t: u64, info: &[u8]) -> Answer
 
 // Codes n super frames whose FEC blocks count from m0 on. The count is the number of words written.
 pub fn code(n: u64, m0: u64, info: &[u8], parity: &[u8], capture: &mut [u8]) -> Answer
-    ensures {
-        λ r. ⌜ Outcome (codeAnswer n m0 (now (info .entry)) (now (parity .entry)) (now (capture .entry)))
-            (codeLeaves n m0 (now (info .entry)) (now (parity .entry)) (now (capture .entry))) r (now (capture .exit)) ⌝
-    }
+    ensures { λ r. ⌜ Outcome (codeAnswer n m0 (now (info .entry)) (now (parity .entry)) (now (capture .entry)))
+        (codeLeaves n m0 (now (info .entry)) (now (parity .entry)) (now (capture .entry))) r (now (capture .exit)) ⌝ }
 {
     coder::code(n, m0, info, parity, capture)
 }
 
 // Reads n super frames back. The count is the number of words whose nine checks were not zero.
 pub fn read(n: u64, m0: u64, capture: &[u8], info: &mut [u8], parity: &mut [u8]) -> Answer
-    ensures {
-        λ r. ⌜ Outcome (readAnswer n m0 (now (capture .entry)) (now (info .entry)) (now (parity .entry)))
-            (readLeaves n m0 (now (capture .entry)) (now (info .entry)) (now (parity .entry))) r (now (info .exit), now (parity .exit)) ⌝
-    }
+    ensures { λ r. ⌜ Outcome (readAnswer n m0 (now (capture .entry)) (now (info .entry)) (now (parity .entry)))
+        (readLeaves n m0 (now (capture .entry)) (now (info .entry)) (now (parity .entry))) r (now (info .exit), now (parity .exit)) ⌝ }
 {
     reader::read(n, m0, capture, info, parity)
 }
 
 // Replaces a client block and the parity of its FEC block. The count is the number of words listed.
-pub fn edit(n: u64, block: u64, bits: &[u8], parity: &[u8], capture: &mut [u8], list: &mut [u64]) -> Answer
-    ensures {
-        λ r. ⌜ Outcome (editAnswer n block (now (bits .entry)) (now (parity .entry)) (now (capture .entry)) (now (list .entry)))
-            (editLeaves n block (now (bits .entry)) (now (parity .entry)) (now (capture .entry)) (now (list .entry))) r (now (capture .exit), now (list .exit)) ⌝
-    }
+pub fn edit(
+    n: u64,
+    block: u64,
+    bits: &[u8],
+    parity: &[u8],
+    capture: &mut [u8],
+    list: &mut [u64],
+) -> Answer
+    ensures { λ r. ⌜ Outcome (editAnswer n block (now (bits .entry)) (now (parity .entry)) (now (capture .entry)) (now (list .entry)))
+        (editLeaves n block (now (bits .entry)) (now (parity .entry)) (now (capture .entry)) (now (list .entry))) r (now (capture .exit), now (list .exit)) ⌝ }
 {
     editor::edit(n, block, bits, parity, capture, list)
 }

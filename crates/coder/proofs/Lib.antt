@@ -3,3 +3,4 @@ pub mod Tails
 pub mod Plain
 pub mod Coding
 pub mod Judging
+pub mod Unique

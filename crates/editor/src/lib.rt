@@ -3,7 +3,7 @@ use answer::Answer;
 ghost use mathlib.Core.Path.{_≡_};
 ghost use mathlib.Core.Bool.{not};
 ghost use lib.Dec.{eqb};
-ghost use Prim.Native.Nat.{_+_, _*_, _%_, _≤_, _<_};
+ghost use Prim.Native.Nat.{ℕ, _+_, _*_, _%_, _≤_, _<_};
 ghost use lib.ListN.{length};
 ghost use Rattle.bits.specs.Bits.{bitAt, byteOf, pack};
 ghost use Rattle.bits.specs.Loops.{first};
@@ -153,12 +153,20 @@ fn add(x: u8, y: u8) -> u8
     (x % 2 + y % 2) % 2
 }
 
+// Where symbol k of word w stands.
+fn place(w: usize, k: usize) -> usize
+    requires { ⌜ (w < 100000) × (k < 16) ⌝ }
+    ensures { λ r. ⌜ r ≡ symbolPlace w k ⌝ }
+{
+    128 * (w / 8) + 8 * k + w % 8
+}
+
 // Bit j of word w of a capture.
 fn word_bit(capture: &[u8], w: usize, j: usize) -> u8
     requires { ⌜ (w < 100000) × (j < 128) ⌝ }
     ensures { λ r. ⌜ r ≡ bitAt (wordIn (now (capture .entry)) w) j ⌝ }
 {
-    bits::bit_at(capture, 8 * (128 * (w / 8) + 8 * (j / 8) + w % 8) + j % 8)
+    bits::bit_at(capture, 8 * place(w, j / 8) + j % 8)
 }
 
 // The slot of element e.
@@ -384,11 +392,11 @@ fn new_word(
 
 // Puts the sixteen symbols of word w to their places.
 fn put_word(capture: &mut [u8], w: usize, v: [u8; 16])
-    requires { ⌜ (w < 100000) × (symbolPlace w 15 < length (now capture)) ⌝ }
+    requires { ⌜ (w < 100000) × ((k : ℕ) → k < 16 → symbolPlace w k < length (now capture)) ⌝ }
     ensures { λ _. ⌜ now (capture .exit) ≡ putWord (now (capture .entry)) w v ⌝ }
 {
     for k in 0..16 {
-        capture[128 * (w / 8) + 8 * k + w % 8] = v[k];
+        capture[place(w, k)] = v[k];
     }
 }
 

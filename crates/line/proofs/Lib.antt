@@ -5,3 +5,4 @@ pub mod FrameLaws
 pub mod SlotLaws
 pub mod WordLaws
 pub mod CaptureLaws
+pub mod Unique

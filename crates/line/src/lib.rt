@@ -41,10 +41,10 @@ pub fn element_in(w: usize) -> usize
     ensures { λ r. ⌜ r ≡ elementIn w ⌝ }
 {
     let d = wait(w);
-    if w < d {
-        return 0;
+    if d <= w {
+        return w - d;
     }
-    w - d
+    0
 }
 
 // Whether word w of n super frames holds an element; otherwise it is filler.

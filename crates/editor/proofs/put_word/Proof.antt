@@ -1,18 +1,18 @@
 -- `editor::put_word` meets its contract. Assumes nothing.
-use Prim.Native.Nat.{_-_, _≤_}
-use mathlib.Core.Path.{_≡_, refl}
-use lib.ListN.{length, length-set}
+use Prim.Native.Nat.{ℕ, _-_, _≤_}
+use mathlib.Core.Path.{_≡_, refl, ap}
+use lib.ListN.{length, length-set, getD, set}
 use native.Mathlib.Omega.{arith}
 use Rattle.bits.proofs.LoopLaws.{Folded, folded-none, folded-more, folded-all}
-use Rattle.line.specs.Words.{symbolPlace}
 use Rattle.editor.specs.Parts.{putSymbol, putWord}
 use Rattle.editor.proofs.put_word.Statement.{statement}
 use Rattle.editor.proofs.put_word.Tie as tie
 use Rattle.editor.proofs.put_word.Reads as reads
 use Rattle.editor.proofs.put_word.Lts as lts
+use Rattle.editor.proofs.place.Reads as place-reads
 
 abbrev Inv-loop : tie.InvT-loop
-Inv-loop capture₀ w v k₀ capture k = (Folded (putSymbol w v) capture₀ k capture) × (length capture ≡ length capture₀) × (k ≤ 16)
+Inv-loop capture₀ w v k₀ capture k = Folded (putSymbol w v) capture₀ k capture × (length capture ≡ length capture₀) × (k ≤ 16)
 
 abbrev μ-loop : tie.MeasureT-loop
 μ-loop capture₀ w v k₀ capture k = 16 - k
@@ -23,21 +23,14 @@ loop-holds c = (folded-none, refl, omega arith)
 array-read-capture : tie.Need-array-read-capture Inv-loop μ-loop
 array-read-capture c = omega arith
 
-mul-capture : tie.Need-mul-capture Inv-loop μ-loop
-mul-capture c = omega arith
-
-mul-capture-2 : tie.Need-mul-capture-2 Inv-loop μ-loop
-mul-capture-2 c = omega arith
-
-add-capture : tie.Need-add-capture Inv-loop μ-loop
-add-capture c = omega arith
-
-add-capture-2 : tie.Need-add-capture-2 Inv-loop μ-loop
-add-capture-2 c = omega arith
+place-requires : tie.Need-place-requires Inv-loop μ-loop
+place-requires c κs = omega arith
 
 slice-write-capture : tie.Need-slice-write-capture Inv-loop μ-loop
-unfolding symbolPlace
-slice-write-capture c = omega arith
+slice-write-capture c =
+    let s = c .before .before .before .before in
+    let k = c .before .before .loop .k in
+    omega (arith, c .place .ensures, s .pre .1 k (omega arith), c .before .before .loop .inv .1)
 
 add-k : tie.Need-add-k Inv-loop μ-loop
 add-k c = omega arith
@@ -46,10 +39,11 @@ loop-less : tie.Need-loop-less Inv-loop μ-loop
 loop-less c = omega arith
 
 loop-again : tie.Need-loop-again Inv-loop μ-loop
-unfolding putSymbol symbolPlace
+unfolding putSymbol
 loop-again c =
-    let i = c .before .loop .inv in
-    (folded-more (i .0) refl, simp length-set (i .1), omega arith)
+    let l = c .before .before .loop in
+    let a = c .before .before .before .before .args in
+    (folded-more (l .inv .0) (ap (λ (x : ℕ). set (l .capture) x (getD (a .t3) (l .k) 0)) (c .place .ensures)), simp length-set (l .inv .1), omega arith)
 
 same-length : tie.Need-same-length Inv-loop μ-loop
 same-length c = omega arith
@@ -66,10 +60,7 @@ put-word-spec =
     μ-loop
     loop-holds
     array-read-capture
-    mul-capture
-    mul-capture-2
-    add-capture
-    add-capture-2
+    place-requires
     slice-write-capture
     add-k
     loop-less

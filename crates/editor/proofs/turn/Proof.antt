@@ -30,7 +30,7 @@ new-word-requires c κs =
 put-word-requires : tie.Need-put-word-requires
 put-word-requires c κs =
     let s = c .before .before .before .before .before .before .before .before .before .before in
-    (omega arith, omega (arith, place-lt (s .args .n) (s .args .w) 15 (s .pre .2) (omega arith)))
+    (omega arith, λ k l. rw (s .pre .3) (place-lt (s .args .n) (s .args .w) k (s .pre .2) l))
 
 mul-list : tie.Need-mul-list
 mul-list c = search needs

@@ -1,6 +1,9 @@
 -- `editor::word_bit` meets its contract. Assumes nothing.
-use mathlib.Core.Path.{_∙_}
+use Prim.Native.Nat.{ℕ, _+_, _*_, _%_}
+use mathlib.Core.Path.{ap, _∙_}
+use native.Mathlib.Omega.{arith}
 use denote.Ref.{now}
+use Rattle.bits.specs.Bits.{bitAt}
 use Rattle.line.specs.Words.{symbolPlace}
 use Rattle.editor.proofs.Changing.{word-bit}
 use borrow.Author.Needs.{needs}
@@ -9,43 +12,27 @@ use Rattle.editor.proofs.word_bit.Tie as tie
 use Rattle.editor.proofs.word_bit.Reads as reads
 use Rattle.editor.proofs.word_bit.Lts as lts
 use Rattle.bits.proofs.bit_at.Reads as bit-at-reads
+use Rattle.editor.proofs.place.Reads as place-reads
+
+place-requires : tie.Need-place-requires
+place-requires c κs = search needs
 
 mul-bit-at : tie.Need-mul-bit-at
-mul-bit-at c = search needs
-
-mul-bit-at-2 : tie.Need-mul-bit-at-2
-mul-bit-at-2 c = search needs
+unfolding symbolPlace
+mul-bit-at c = omega (arith, c .place .ensures)
 
 add-bit-at : tie.Need-add-bit-at
-add-bit-at c = search needs
-
-add-bit-at-2 : tie.Need-add-bit-at-2
-add-bit-at-2 c = search needs
-
-mul-bit-at-3 : tie.Need-mul-bit-at-3
-mul-bit-at-3 c = search needs
-
-add-bit-at-3 : tie.Need-add-bit-at-3
-add-bit-at-3 c = search needs
+unfolding symbolPlace
+add-bit-at c = omega (arith, c .place .ensures)
 
 bit-at-requires : tie.Need-bit-at-requires
 bit-at-requires c κs = search needs
 
 returns : tie.Need-returns
-unfolding symbolPlace
 returns c =
-    let s = c .before .before in
-    c .bit-at .ensures ∙ word-bit (now (s .args .capture)) (s .args .w) (s .args .j) (s .pre .1)
+    let s = c .before .before .before in
+    let a = s .args in
+    c .bit-at .ensures ∙ ap (λ (x : ℕ). bitAt (now (a .capture)) (8 * x + a .j % 8)) (c .before .place .ensures) ∙ word-bit (now (a .capture)) (a .w) (a .j) (s .pre .1)
 
 pub word-bit-spec : {M : Type 1} → statement M
-word-bit-spec =
-    tie.close
-    (tie.spec
-    mul-bit-at
-    mul-bit-at-2
-    add-bit-at
-    add-bit-at-2
-    mul-bit-at-3
-    add-bit-at-3
-    bit-at-requires
-    returns)
+word-bit-spec = tie.close (tie.spec place-requires mul-bit-at add-bit-at bit-at-requires returns)

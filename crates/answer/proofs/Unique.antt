@@ -1,0 +1,16 @@
+-- Each public contract has one answer: two results that meet it are the same. `Post` is the contract's own `ensures`, so a weaker contract would not
+-- pass here. Assumes nothing.
+use mathlib.Core.Path.{_≡_}
+use Rattle.bits.proofs.Common.{only}
+use Rattle.answer.proofs.granted.Reads as granted
+use Rattle.answer.proofs.refuse.Reads as refuse
+use Rattle.answer.proofs.buffer_place.Reads as buffer-place
+
+pub one-granted : (κs : _) (a : _) (x y : _) (s t : _) → granted.Post κs a x s → granted.Post κs a y t → x ≡ y
+one-granted κs a x y s t p q = only p q
+
+pub one-refuse : (κs : _) (a : _) (x y : _) (s t : _) → refuse.Post κs a x s → refuse.Post κs a y t → x ≡ y
+one-refuse κs a x y s t p q = only p q
+
+pub one-buffer-place : (κs : _) (a : _) (x y : _) (s t : _) → buffer-place.Post κs a x s → buffer-place.Post κs a y t → x ≡ y
+one-buffer-place κs a x y s t p q = only p q

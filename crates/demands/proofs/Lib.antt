@@ -1,0 +1,4 @@
+-- The demands, from the promises; and the starred cases of document 01.
+pub mod Hurting
+pub mod Facts
+pub mod Starred

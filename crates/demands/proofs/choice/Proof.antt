@@ -1,0 +1,32 @@
+-- `demands::choice` meets its contract. Assumes nothing.
+use mathlib.Core.Path.{sym, _∙_}
+use native.Mathlib.Omega.{arith}
+use denote.Ref.{now}
+use lib.ListN.{List·getD-eq-default}
+use Rattle.demands.proofs.Hurting.{getD-any}
+use borrow.Author.Needs.{needs}
+use Rattle.demands.proofs.choice.Statement.{statement}
+use Rattle.demands.proofs.choice.Tie as tie
+use Rattle.demands.proofs.choice.Reads as reads
+use Rattle.demands.proofs.choice.Lts as lts
+use Rattle.bits.proofs.wide.Reads as wide-reads
+
+shared-slice-read-wide : tie.Need-shared-slice-read-wide
+shared-slice-read-wide c = search needs
+
+wide-requires : tie.Need-wide-requires
+wide-requires c κs = search needs
+
+cast-result : tie.Need-cast-result
+cast-result c = search needs
+
+returns : tie.Need-returns
+returns c = let a = c .before .before .before .before .args in
+    record { is = c .wide .ensures .same ∙ getD-any (now (a .flips)) (a .w) 0 128 (c .before .before .if1 .taken); small = c .wide .ensures .small }
+
+returns-2 : tie.Need-returns-2
+returns-2 c = let a = c .before .before .args in record { is = sym (List·getD-eq-default (now (a .flips)) 128 (c .if1 .left)); small = omega arith }
+
+pub choice-spec : {M : Type 1} → statement M
+choice-spec =
+    tie.close (tie.spec shared-slice-read-wide wide-requires cast-result returns returns-2)

@@ -1,0 +1,58 @@
+-- `demands::code_damage_read` meets its contract, demand 2. Assumes nothing.
+use denote.Ref.{now}
+use Rattle.demands.proofs.Facts.{coded-now, reads-back}
+use borrow.Author.Needs.{needs}
+use Rattle.demands.proofs.code_damage_read.Statement.{statement}
+use Rattle.demands.proofs.code_damage_read.Tie as tie
+use Rattle.demands.proofs.code_damage_read.Reads as reads
+use Rattle.demands.proofs.code_damage_read.Lts as lts
+use Rattle.capture.proofs.code.Reads as code-reads
+use Rattle.capture.proofs.read.Reads as read-reads
+use Rattle.demands.proofs.damage.Reads as damage-reads
+
+code-requires : tie.Need-code-requires
+code-requires c κs = search needs
+
+same-length : tie.Need-same-length
+same-length c = search needs
+
+returns : tie.Need-returns
+returns c = λ input long i₀ p₀.
+    let a = c .before .before .before .before .before .before .before .before .before .before .before .before .args in
+    absurd (c .if1 .taken (coded-now (a .n) (a .m0) (now (a .info)) (now (a .parity)) (now (a .capture)) input long (c .before .before .before .before .code .ensures) .granted))
+
+damage-requires : tie.Need-damage-requires
+damage-requires c κs = search needs
+
+read-requires : tie.Need-read-requires
+read-requires c κs = search needs
+
+same-length-2 : tie.Need-same-length-2
+same-length-2 c = search needs
+
+same-length-3 : tie.Need-same-length-3
+same-length-3 c = search needs
+
+same-length-4 : tie.Need-same-length-4
+same-length-4 c = search needs
+
+returns-2 : tie.Need-returns-2
+returns-2 c = λ input long i₀ p₀.
+    let a = c .before .before .before .before .before .before .before .before .before .before .before .before .before .before .before .before .before .before .before .before .before .before .before .before .args in
+    reads-back (a .n) (a .m0) (now (a .info)) (now (a .parity)) (now (a .flips)) _ _ (now (a .back)) (now (a .parity-back)) input
+    (coded-now (a .n) (a .m0) (now (a .info)) (now (a .parity)) (now (a .capture)) input long (c .before .before .before .before .before .before .before .before .before .before .before .before .before .before .before .before .code .ensures) .capture)
+    (c .before .before .before .before .before .before .before .before .before .before .damage .ensures) i₀ p₀ (c .before .before .before .before .read .ensures)
+
+pub code-damage-read-spec : {M : Type 1} → statement M
+code-damage-read-spec =
+    tie.close
+    (tie.spec
+    code-requires
+    same-length
+    returns
+    damage-requires
+    read-requires
+    same-length-2
+    same-length-3
+    same-length-4
+    returns-2)

@@ -1,0 +1,48 @@
+-- `demands::code_edit` meets its contract, demand 3. Assumes nothing.
+use denote.Ref.{now}
+use Rattle.demands.proofs.Facts.{coded-now, edits-as-coded}
+use borrow.Author.Needs.{needs}
+use Rattle.demands.proofs.code_edit.Statement.{statement}
+use Rattle.demands.proofs.code_edit.Tie as tie
+use Rattle.demands.proofs.code_edit.Reads as reads
+use Rattle.demands.proofs.code_edit.Lts as lts
+use Rattle.capture.proofs.code.Reads as code-reads
+use Rattle.capture.proofs.edit.Reads as edit-reads
+
+code-requires : tie.Need-code-requires
+code-requires c κs = search needs
+
+same-length : tie.Need-same-length
+same-length c = search needs
+
+returns : tie.Need-returns
+returns c = λ input long e.
+    let a = c .before .before .before .before .before .before .before .before .before .before .before .before .args in
+    absurd (c .if1 .taken (coded-now (a .n) (a .m0) (now (a .info)) (now (a .parity)) (now (a .capture)) input long (c .before .before .before .before .code .ensures) .granted))
+
+edit-requires : tie.Need-edit-requires
+edit-requires c κs = search needs
+
+same-length-2 : tie.Need-same-length-2
+same-length-2 c = search needs
+
+same-length-3 : tie.Need-same-length-3
+same-length-3 c = search needs
+
+returns-2 : tie.Need-returns-2
+returns-2 c = λ input long e.
+    let a = c .before .before .before .before .before .before .before .before .before .before .before .before .before .before .before .before .before .before .before .args in
+    edits-as-coded (a .n) (a .m0) (a .block) (now (a .info)) (now (a .parity)) (now (a .bits)) (now (a .new-parity)) _ (now (a .list))
+    (coded-now (a .n) (a .m0) (now (a .info)) (now (a .parity)) (now (a .capture)) input long (c .before .before .before .before .before .before .before .before .before .before .before .code .ensures) .capture) e (c .before .before .before .before .edit .ensures)
+
+pub code-edit-spec : {M : Type 1} → statement M
+code-edit-spec =
+    tie.close
+    (tie.spec
+    code-requires
+    same-length
+    returns
+    edit-requires
+    same-length-2
+    same-length-3
+    returns-2)

@@ -1,0 +1,47 @@
+-- `demands::map_unmap` meets its contract: the groups come back. Assumes nothing.
+use denote.Ref.{now}
+use Rattle.gmp.proofs.RoundTrip.{round-trip}
+use borrow.Author.Needs.{needs}
+use Rattle.demands.proofs.map_unmap.Statement.{statement}
+use Rattle.demands.proofs.map_unmap.Tie as tie
+use Rattle.demands.proofs.map_unmap.Reads as reads
+use Rattle.demands.proofs.map_unmap.Lts as lts
+use Rattle.gmp.proofs.map.Reads as map-reads
+use Rattle.gmp.proofs.unmap.Reads as unmap-reads
+
+map-requires : tie.Need-map-requires
+map-requires c κs = search needs
+
+same-length : tie.Need-same-length
+same-length c = search needs
+
+returns : tie.Need-returns
+returns c = λ z l. absurd (c .if1 .taken z)
+
+unmap-requires : tie.Need-unmap-requires
+unmap-requires c κs = search needs
+
+same-length-2 : tie.Need-same-length-2
+same-length-2 c = search needs
+
+same-length-3 : tie.Need-same-length-3
+same-length-3 c = search needs
+
+returns-2 : tie.Need-returns-2
+returns-2 c = λ z l.
+    let a = c .before .before .before .before .before .before .before .before .before .before .before .before .before .before .args in
+    let given = c .before .before .before .before .before .before .before .before .before .before .before .before .before .shared-slice-known .given in
+    round-trip (a .c) (a .f) (a .n) (now (a .groups)) (now (a .window)) (now (a .back)) (c .before .before .before .before .before .before .before .before .before .map .result) (c .before .before .unmap .result) _ _ (λ k. given k .fits)
+    (c .before .before .before .before .before .before .before .before .before .map .ensures) (c .before .before .before .before .before .if1 .left) l (c .before .before .unmap .ensures) .1
+
+pub map-unmap-spec : {M : Type 1} → statement M
+map-unmap-spec =
+    tie.close
+    (tie.spec
+    map-requires
+    same-length
+    returns
+    unmap-requires
+    same-length-2
+    same-length-3
+    returns-2)

@@ -1,0 +1,24 @@
+-- `demands::read` meets its contract, demand 1 of reading. Assumes nothing.
+use denote.Ref.{now}
+use Rattle.demands.proofs.Facts.{read-refuses}
+use borrow.Author.Needs.{needs}
+use Rattle.demands.proofs.read.Statement.{statement}
+use Rattle.demands.proofs.read.Tie as tie
+use Rattle.demands.proofs.read.Reads as reads
+use Rattle.demands.proofs.read.Lts as lts
+use Rattle.capture.proofs.read.Reads as read-reads
+
+read-requires : tie.Need-read-requires
+read-requires c κs = search needs
+
+same-length : tie.Need-same-length
+same-length c = search needs
+
+same-length-2 : tie.Need-same-length-2
+same-length-2 c = search needs
+
+returns : tie.Need-returns
+returns c = let a = c .before .before .before .before .before .before .before .before .before .before .args in read-refuses (a .n) (a .m0) (now (a .capture)) (now (a .info)) (now (a .parity)) (c .before .before .before .before .read .ensures)
+
+pub read-spec : {M : Type 1} → statement M
+read-spec = tie.close (tie.spec read-requires same-length same-length-2 returns)

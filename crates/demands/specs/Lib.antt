@@ -1,0 +1,3 @@
+-- The customer's demands, as contracts of a client.
+pub mod Demands
+pub mod Hurt

@@ -1,0 +1,135 @@
+// A client of the coder that sees only its promises. The contracts here are the customer's demands: were a promise too weak, they could not
+// be proved.
+use answer::Answer;
+ghost use mathlib.Core.Path.{_≡_};
+ghost use mathlib.Core.List.{List};
+ghost use Prim.Native.Nat.{ℕ};
+ghost use lib.ListN.{length};
+ghost use Rattle.answer.specs.Numbers.{allDone};
+ghost use Rattle.coder.specs.Code.{codeRows};
+ghost use Rattle.reader.specs.Read.{readRows};
+ghost use Rattle.editor.specs.Edit.{editRows};
+ghost use Rattle.demands.specs.Demands.{Refuses, choiceOf, Demand2, Demand3};
+ghost use Rattle.demands.specs.Hurt.{hurtByte, hurtBytes, Chosen};
+
+// Demand 1 of coding.
+pub fn code(n: u64, m0: u64, info: &[u8], parity: &[u8], capture: &mut [u8]) -> Answer
+    ensures { λ r. ⌜ Refuses (codeRows n m0 (now (info .entry)) (now (parity .entry)) (now (capture .entry))) (now (capture .entry)) r (now (capture .exit)) ⌝ }
+{
+    capture::code(n, m0, info, parity, capture)
+}
+
+// Demand 1 of reading.
+pub fn read(n: u64, m0: u64, capture: &[u8], info: &mut [u8], parity: &mut [u8]) -> Answer
+    ensures { λ r. ⌜ Refuses {B = List ℕ × List ℕ} (readRows n m0 (now (capture .entry)) (now (info .entry)) (now (parity .entry))) (now (info .entry), now (parity .entry)) r
+        (now (info .exit), now (parity .exit)) ⌝ }
+{
+    capture::read(n, m0, capture, info, parity)
+}
+
+// Demand 1 of editing.
+pub fn edit(
+    n: u64,
+    block: u64,
+    bits: &[u8],
+    parity: &[u8],
+    capture: &mut [u8],
+    list: &mut [u64],
+) -> Answer
+    ensures { λ r. ⌜ Refuses {B = List ℕ × List ℕ} (editRows n block (now (bits .entry)) (now (parity .entry)) (now (capture .entry)) (now (list .entry)))
+        (now (capture .entry), now (list .entry)) r (now (capture .exit), now (list .exit)) ⌝ }
+{
+    capture::edit(n, block, bits, parity, capture, list)
+}
+
+// Demand 2: codes, turns in word w the bit that flips[w] names (128 or more is none), and reads.
+pub fn code_damage_read(
+    n: u64,
+    m0: u64,
+    info: &[u8],
+    parity: &[u8],
+    flips: &[u8],
+    capture: &mut [u8],
+    back: &mut [u8],
+    parity_back: &mut [u8],
+) -> Answer
+    ensures { λ r. ⌜ Demand2 n m0 (now (info .entry)) (now (parity .entry)) (now (flips .entry)) (now (capture .entry)) (now (back .entry))
+        (now («parity_back» .entry)) r (now (back .exit)) (now («parity_back» .exit)) ⌝ }
+{
+    let coded = capture::code(n, m0, info, parity, capture);
+    if coded.number != 0 {
+        return coded;
+    }
+    damage(flips, capture);
+    capture::read(n, m0, capture, back, parity_back)
+}
+
+// Turns the chosen bits.
+fn damage(flips: &[u8], capture: &mut [u8])
+    ensures { λ _. ⌜ now (capture .exit) ≡ hurtBytes (now (flips .entry)) (now (capture .entry)) ⌝ }
+{
+    for b in 0..capture.len() {
+        capture[b] = hurt_byte(flips, b, capture[b]);
+    }
+}
+
+// Byte b of the capture, where it is x: its bit is turned where it is the chosen one of its word.
+fn hurt_byte(flips: &[u8], b: usize, x: u8) -> u8
+    ensures { λ r. ⌜ r ≡ hurtByte (now (flips .entry)) b x ⌝ }
+{
+    let p = choice(flips, 8 * (b / 128) + b % 8);
+    if p / 8 == b % 128 / 8 {
+        return x ^ (128 >> (p % 8));
+    }
+    x
+}
+
+// The bit chosen for word w, or none.
+fn choice(flips: &[u8], w: usize) -> usize
+    ensures { λ r. ⌜ Chosen (now (flips .entry)) w r ⌝ }
+{
+    if w < flips.len() {
+        return bits::wide(flips[w]) as usize;
+    }
+    128
+}
+
+// Demand 3: codes, and edits one client block with its FEC block's parity.
+pub fn code_edit(
+    n: u64,
+    m0: u64,
+    block: u64,
+    info: &[u8],
+    parity: &[u8],
+    bits: &[u8],
+    new_parity: &[u8],
+    capture: &mut [u8],
+    list: &mut [u64],
+) -> Answer
+    ensures { λ r. ⌜ Demand3 n m0 block (now (info .entry)) (now (parity .entry)) (now (bits .entry)) (now («new_parity» .entry)) (now (capture .entry))
+        (now (list .entry)) r (now (capture .exit)) (now (list .exit)) ⌝ }
+{
+    let coded = capture::code(n, m0, info, parity, capture);
+    if coded.number != 0 {
+        return coded;
+    }
+    capture::edit(n, block, bits, new_parity, capture, list)
+}
+
+// Maps groups into a window and takes them out again.
+pub fn map_unmap(
+    c: u64,
+    f: u64,
+    n: u64,
+    groups: &[u8],
+    window: &mut [u8],
+    back: &mut [u8],
+) -> Answer
+    ensures { λ r. ⌜ (r .number ≡ allDone → length (now (back .entry)) ≡ length (now (groups .entry)) → now (back .exit) ≡ now (groups .entry)) ⌝ }
+{
+    let mapped = gmp::map(c, f, n, groups, window);
+    if mapped.number != 0 {
+        return mapped;
+    }
+    gmp::unmap(c, f, n, window, back)
+}

@@ -1,0 +1,32 @@
+-- Each public contract has one answer: two results that meet it are the same. `Post` is the contract's own `ensures`, so a weaker contract would not
+-- pass here. Assumes nothing.
+use mathlib.Core.Path.{_≡_}
+use Rattle.bits.proofs.Common.{only}
+use Rattle.line.proofs.super_allowed.Reads as super-allowed
+use Rattle.line.proofs.mbas_allowed.Reads as mbas-allowed
+use Rattle.line.proofs.mbas.Reads as mbas
+use Rattle.line.proofs.element_in.Reads as element-in
+use Rattle.line.proofs.holds_element.Reads as holds-element
+use Rattle.line.proofs.sum.Reads as sum
+use Rattle.line.proofs.word_in.Reads as word-in
+
+pub one-super-allowed : (κs : _) (a : _) (x y : _) (s t : _) → super-allowed.Post κs a x s → super-allowed.Post κs a y t → x ≡ y
+one-super-allowed κs a x y s t p q = only p q
+
+pub one-mbas-allowed : (κs : _) (a : _) (x y : _) (s t : _) → mbas-allowed.Post κs a x s → mbas-allowed.Post κs a y t → x ≡ y
+one-mbas-allowed κs a x y s t p q = only p q
+
+pub one-mbas : (κs : _) (a : _) (x y : _) (s t : _) → mbas.Post κs a x s → mbas.Post κs a y t → x ≡ y
+one-mbas κs a x y s t p q = only p q
+
+pub one-element-in : (κs : _) (a : _) (x y : _) (s t : _) → element-in.Post κs a x s → element-in.Post κs a y t → x ≡ y
+one-element-in κs a x y s t p q = only p q
+
+pub one-holds-element : (κs : _) (a : _) (x y : _) (s t : _) → holds-element.Post κs a x s → holds-element.Post κs a y t → x ≡ y
+one-holds-element κs a x y s t p q = only p q
+
+pub one-sum : (κs : _) (a : _) (x y : _) (s t : _) → sum.Post κs a x s → sum.Post κs a y t → x ≡ y
+one-sum κs a x y s t p q = only p q
+
+pub one-word-in : (κs : _) (a : _) (x y : _) (s t : _) → word-in.Post κs a x s → word-in.Post κs a y t → x ≡ y
+one-word-in κs a x y s t p q = only p q
