@@ -7,11 +7,11 @@ use native.Mathlib.Nat.{add-sub-cancel-left}
 use native.Mathlib.Omega.{arith}
 use borrow.Author.Tests.{ltb-true, lt-ltb, le-ltb, eq-eqb, ne-eqb, not-false}
 use lib.Dec.{ltb}
-use lib.ListN.{length, take, drop}
+use lib.ListN.{length, take, drop, length-take, length-drop}
 use Rattle.answer.specs.Numbers.{allDone, outsideSet, wrongLength}
-use Rattle.answer.specs.Rows.{done, refused, answerOf, bufferPlace, buffers}
+use Rattle.answer.specs.Rows.{done, refused, answerOf, bufferPlace, buffers, Applies, Least, rising}
 use Rattle.answer.specs.declared.Answer.{Answer}
-use Rattle.answer.proofs.Table.{row-whole, row-buffers, inTurn, guard, two-tests}
+use Rattle.answer.proofs.Table.{row-whole, row-buffers, inTurn, guard, two-tests, answered-least, least-answered, answered-done, done-answered}
 use Rattle.answer.proofs.Meets.{written-done, written-refused}
 use Rattle.line.specs.Sizes.{infoBytes, fecBlocks, infoLength}
 use Rattle.line.specs.Captures.{superAllowed, wrong}
@@ -73,3 +73,28 @@ pub part-empty : (N t : ℕ) (info : List ℕ) (r : Answer) → r ≡ partAnswer
 unfolding partOf
 part-empty N t info r e z =
     sym (written-refused (partAnswer N t info) (take infoBytes (drop (infoBytes * t) info)) [] (λ h. z (ap (λ (x : Answer). x .number) e ∙ h)))
+
+-- a granted part is 30,583 bytes, so it is never the empty part
+pub part-long : (N t : ℕ) (info : List ℕ) → partAnswer N t info .number ≡ allDone → length (partOf N t info) ≡ infoBytes
+unfolding partOf
+part-long N t info z =
+    let p = granted-part N t info (partAnswer N t info) refl z in
+    ap length (written-done (partAnswer N t info) (take infoBytes (drop (infoBytes * t) info)) [] z) ∙ long info (infoBytes * t) infoBytes (omega (arith, p .few, p .block, p .long))
+  where
+    long : (s : List ℕ) (a n : ℕ) → a + n ≤ length s → length (take n (drop a s)) ≡ n
+    long s a n h = simp (length-take, length-drop) (omega arith)
+
+-- EXACTLY: number k at place p is answered exactly if row k holds at p and nothing smaller does; done exactly if nothing applies
+module _ (N t : ℕ) (info : List ℕ) where
+  part-rise : rising 0 (partRows N t info) ≡ true
+  unfolding rising partRows
+  part-rise = refl
+
+  pub part-exactly : (k p : ℕ) → 0 < k → (partAnswer N t info ≡ refused k p → Least (partRows N t info) k p) × (Least (partRows N t info) k p → partAnswer N t info ≡ refused k p)
+  unfolding partAnswer
+  part-exactly k p h = (answered-least (partRows N t info) 0 part-rise k p h, least-answered (partRows N t info) 0 part-rise k p)
+
+  pub part-done : (partAnswer N t info .number ≡ allDone → (partAnswer N t info ≡ done 0) × ((k p : ℕ) → Applies (partRows N t info) k p → ⊥))
+      × (((k p : ℕ) → Applies (partRows N t info) k p → ⊥) → partAnswer N t info ≡ done 0)
+  unfolding partAnswer
+  part-done = (answered-done (partRows N t info) 0 part-rise, done-answered (partRows N t info) 0 part-rise)

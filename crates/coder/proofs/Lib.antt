@@ -3,4 +3,5 @@ pub mod Tails
 pub mod Plain
 pub mod Coding
 pub mod Judging
+pub mod Exactly
 pub mod Unique

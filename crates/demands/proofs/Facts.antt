@@ -19,6 +19,7 @@ use Rattle.line.specs.Fec.{fecBit}
 use Rattle.line.specs.Words.{wordsOf}
 use Rattle.line.proofs.WordLaws.{length-laid}
 use Rattle.coder.specs.Code.{captureOf, codeRows, codeAnswer, codeLeaves}
+use Rattle.coder.proofs.Exactly.{code-rise}
 use Rattle.reader.specs.Read.{readRows, readAnswer, readLeaves}
 use Rattle.editor.specs.Edit.{listed, listOf, editRows, editAnswer, editLeaves}
 use Rattle.capture.specs.Damage.{Input, damaged, howMany}
@@ -48,10 +49,6 @@ refuses-by rows c new old {r} {left} rise o n =
       none = none;
       unchanged = o .kept ∙ written-refused (answerOf rows c) new old (λ z. n (ap (λ (x : Answer). x .number) (o .told) ∙ z));
     }
-
-code-rise : (N m0 : ℕ) (info par cap : List ℕ) → rising 0 (codeRows N m0 info par cap) ≡ true
-unfolding rising codeRows
-code-rise N m0 info par cap = refl
 
 read-rise : (N m0 : ℕ) (cap info par : List ℕ) → rising 0 (readRows N m0 cap info par) ≡ true
 unfolding rising readRows

@@ -48,19 +48,6 @@ by-case P w c i p q r = at-zero (ℕ-discrete c 0)
 
 -- ---- what holds of any sixteen bytes
 
--- a repaired word is sixteen bytes
-pub repair-long : (w : List ℕ) → length w ≡ 16 → length (repairOf w .word) ≡ 16
-unfolding repairOf
-repair-long w long =
-    let i = positionOf (checksOf w) in
-    by-case (λ r. length (r .word) ≡ 16) w (checksOf w) i (λ e. long) (λ ne h. turn-long w i ∙ long) (λ ne h. long)
-
-pub repair-bytes : (w : List ℕ) → length w ≡ 16 → Bytes w → Bytes (repairOf w .word)
-unfolding repairOf
-repair-bytes w long b =
-    let i = positionOf (checksOf w) in
-    by-case (λ r. Bytes (r .word)) w (checksOf w) i (λ e. b) (λ ne h. turn-bytes w long i h b) (λ ne h. b)
-
 -- what is beyond repair is left as it is
 pub beyond-kept : (w : List ℕ) → repairOf w .found ≡ Beyond → repairOf w .word ≡ w
 unfolding repairOf

@@ -16,10 +16,6 @@ use Rattle.hamming.specs.Code.{sumTo, taken}
 
 -- ---- any sum
 
-pub sum-none : (f : ℕ → ℕ) → 0 ≡ sumTo f 0
-unfolding sumTo
-sum-none f = refl
-
 pub sum-more : (f : ℕ → ℕ) (n : ℕ) → sumTo f (n + 1) ≡ bitXor (sumTo f n) (f n)
 unfolding sumTo
 sum-more f n = ap (sumTo f) (add-one n)

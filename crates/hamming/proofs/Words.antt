@@ -56,11 +56,6 @@ checks-joined f p b =
     (sum-same (λ j. taken 0 v (119 + j)) (taken 119 (digit 9 p)) 9
     (λ j h. taken-same 0 119 v (digit 9 p) (119 + j) j (joined-bit f p (119 + j) b (omega arith) ∙ joined-high f p j) (omega arith)))
 
--- the checks, term by term
-pub checks-sum : (w : List ℕ) → checksOf w ≡ sumTo (λ i. bitAt w i * columnOf i) 128
-unfolding checksOf taken
-checks-sum w = sum-same (taken 0 (bitAt w)) (λ i. bitAt w i * columnOf i) 128 (λ i h. ap (λ (k : ℕ). bitAt w i * columnOf k) (zero-add i))
-
 pub element-lt : (f : ℕ → ℕ) → Bits f → elementSum f < 512
 unfolding elementSum
 element-lt f b =
@@ -80,10 +75,6 @@ checks-lt w = sum-lt 9 (taken 0 (bitAt w)) 128 (lit< tt) (λ i h. taken-lt 0 (bi
 pub coded-long : (f : ℕ → ℕ) → length (coded f) ≡ 16
 unfolding coded
 coded-long f = length-packs 8 16 (joined f (tailOf (elementSum f)))
-
-pub coded-bytes : (f : ℕ → ℕ) → Bits f → Bytes (coded f)
-unfolding coded
-coded-bytes f b = pack-bytes (joined f (tailOf (elementSum f))) (joined-lt f (tailOf (elementSum f)) b)
 
 pub coded-bit : (f : ℕ → ℕ) (i : ℕ) → Bits f → i < 119 → bitAt (coded f) i ≡ f i
 unfolding coded

@@ -119,6 +119,10 @@ in-flush N k p =
     by-test true e = lt-ltb (superElements * N + k - delay k) (superElements * N) (omega (arith, ltb-true k (delay k) e, delay-most k))
     by-test false e = le-ltb (superElements * N + k - delay k) (superElements * N) (omega (arith, ltb-false k (delay k) e))
 
+full-between : (N w : ℕ) → 480 ≤ w → w < superElements * N → holds N w ≡ true
+unfolding holds elementIn
+full-between N w h l = rw (le-leb (delay w) w (omega (arith, delay-most w)), lt-ltb (w - delay w) (superElements * N) (omega arith))
+
 filler-first : count (λ k. not (leb (delay k) k)) 480 ≡ 240
 unfolding count delay
 filler-first = refl
@@ -129,11 +133,13 @@ filler-last = refl
 
 pub record Filler (N : ℕ) : Type 0 where
   pub before : count (λ k. not (holds N k)) 480 ≡ 240
+  pub between : (w : ℕ) → 480 ≤ w → w < superElements * N → holds N w ≡ true
   pub flushed : count (λ k. not (holds N (superElements * N + k))) 480 ≡ 240
 
 pub filler : (N : ℕ) → 0 < N → Filler N
 filler N p = record {
   before = count-ext (λ k. not (holds N k)) (λ k. not (leb (delay k) k)) 480 (λ k l. ap not (before-flush N k l p)) ∙ filler-first;
+  between = full-between N;
   flushed = count-ext (λ k. not (holds N (superElements * N + k))) (λ k. not (ltb k (delay k))) 480 (λ k l. ap not (in-flush N k p)) ∙ filler-last;
 }
 
