@@ -13,10 +13,14 @@ use Rattle.bits.proofs.Common.{and-left, and-right, clash}
 use Rattle.line.specs.Sizes.{superElements, words}
 use Rattle.line.specs.Slots.{delay, slotOf, elementIn, holds, slotBit}
 
--- a slot has its element's delay
+-- a slot has its element's row, and so its delay
+slot-row : (e : ℕ) → slotOf e % 16 ≡ e % 16
+unfolding slotOf delay
+slot-row e = omega arith
+
 slot-delay : (e : ℕ) → delay (slotOf e) ≡ delay e
-unfolding delay slotOf
-slot-delay e = let r : (e + 32 * (15 - e % 16)) % 16 ≡ e % 16 = omega arith in rw r
+unfolding delay
+slot-delay e = rw (slot-row e)
 
 there-and-back : (e : ℕ) → slotOf e - delay e ≡ e
 unfolding slotOf
@@ -53,9 +57,21 @@ pub record Held (N w : ℕ) : Type 0 where
   pub below : elementIn w < superElements * N
   pub back : slotOf (elementIn w) ≡ w
 
+element-row : (w : ℕ) → delay w ≤ w → elementIn w % 16 ≡ w % 16
+unfolding elementIn delay
+element-row w h = omega arith
+
+element-delay : (w : ℕ) → delay w ≤ w → delay (elementIn w) ≡ delay w
+unfolding delay
+element-delay w h = rw (element-row w h)
+
+waited : (w : ℕ) → delay w ≤ w → elementIn w + delay w ≡ w
+unfolding elementIn
+waited w h = omega arith
+
 back-again : (w : ℕ) → delay w ≤ w → slotOf (elementIn w) ≡ w
-unfolding slotOf elementIn delay
-back-again w h = let r : (w - 32 * (15 - w % 16)) % 16 ≡ w % 16 = omega arith in rw r (omega arith)
+unfolding slotOf
+back-again w h = rw (element-delay w h) (waited w h)
 
 pub held : (N w : ℕ) → holds N w ≡ true → Held N w
 unfolding holds
