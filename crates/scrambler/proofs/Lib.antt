@@ -1,4 +1,5 @@
 -- The laws of `specs/`, for every crate above.
 pub mod Rule
 pub mod Stepping
+pub mod Strides
 pub mod Unique

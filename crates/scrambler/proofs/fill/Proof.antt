@@ -1,67 +1,49 @@
--- `fill` meets its contract: before byte k the register holds the bits from 8·k on. Assumes nothing.
-use Prim.Native.Nat.{_-_, _*_, _^_, _<_}
-use mathlib.Core.Path.{_≡_, sym}
+-- `fill` meets its contract: a short buffer comes from the register alone, a longer one goes on by sums. Assumes nothing.
+use Prim.Native.Nat.{ℕ}
+use mathlib.Core.Path.{refl, ap, _∙_}
 use native.Mathlib.Omega.{arith}
-use lib.ListN.{length}
-use Rattle.bits.specs.Bits.{byteOf}
-use Rattle.bits.proofs.Lists.{Filled, filled-none, filled-more}
-use Rattle.bits.proofs.LoopLaws.{loops}
+use Rattle.bits.specs.Bits.{pack}
 use Rattle.scrambler.specs.Scrambler.{o}
-use Rattle.scrambler.specs.Register.{register}
-use Rattle.scrambler.proofs.Stepping.{starts, upper-half, byte-on}
+use Rattle.scrambler.proofs.Strides.{opened-all, opened-begun}
+use borrow.Author.Needs.{needs}
 use Rattle.scrambler.proofs.fill.Statement.{statement}
 use Rattle.scrambler.proofs.fill.Tie as tie
+use Rattle.scrambler.proofs.fill.Reads as reads
+use Rattle.scrambler.proofs.fill.Lts as lts
+use Rattle.scrambler.proofs.begin.Reads as begin-reads
+use Rattle.scrambler.proofs.go_on.Reads as go-on-reads
 
-abbrev Inv-loop : tie.InvT-loop
-Inv-loop out₀ s₀ k₀ k-end out s k = (s < 2 ^ 16) × (s ≡ register (8 * k)) × Filled k (byteOf o) out₀ out
+begin-requires : tie.Need-begin-requires
+begin-requires c κs = search needs
 
-abbrev μ-loop : tie.MeasureT-loop
-μ-loop out₀ s₀ k₀ k-end out s k = length out₀ - k
+begin-requires-2 : tie.Need-begin-requires-2
+begin-requires-2 c κs = search needs
 
-loop-holds : tie.Need-loop-holds Inv-loop μ-loop
-loop-holds c = (omega arith, sym starts, filled-none)
+go-on-requires : tie.Need-go-on-requires
+go-on-requires c κs = opened-begun (c .before .before .before .begin2 .ensures) (omega arith)
 
-cast-out : tie.Need-cast-out Inv-loop μ-loop
-cast-out c = search loops
+same-length : tie.Need-same-length
+same-length c = search needs
 
-slice-write-out : tie.Need-slice-write-out Inv-loop μ-loop
-slice-write-out c = search loops
+returns : tie.Need-returns
+returns c = opened-all _ (c .before .before .begin .ensures) refl
 
-next8-requires : tie.Need-next8-requires Inv-loop μ-loop
-next8-requires c κs = search loops
+same-length-2 : tie.Need-same-length-2
+same-length-2 c = search needs
 
-add-k : tie.Need-add-k Inv-loop μ-loop
-add-k c = search loops
-
-loop-less : tie.Need-loop-less Inv-loop μ-loop
-loop-less c = search loops
-
-loop-again : tie.Need-loop-again Inv-loop μ-loop
-loop-again c =
-    let h = c .before .before .loop in (
-      c .next8 .ensures .small,
-      byte-on (h .k) (h .inv .1) (c .next8 .ensures),
-      filled-more (h .inv .2) (c .before .loop-test .taken) (upper-half (h .k) (h .s) (h .inv .1)),
-    )
-
-same-length : tie.Need-same-length Inv-loop μ-loop
-same-length c = search loops
-
-returns : tie.Need-returns Inv-loop μ-loop
-returns c = search loops
+returns-2 : tie.Need-returns-2
+returns-2 c =
+    let called = c .before .before .before in
+    c .before .before .go-on .ensures ∙ ap (λ (n : ℕ). pack n o) (called .before .before .before .begin2 .ensures .long)
 
 pub fill-spec : {M : Type 1} → statement M
 fill-spec =
     tie.close
     (tie.spec
-    Inv-loop
-    μ-loop
-    loop-holds
-    cast-out
-    slice-write-out
-    next8-requires
-    add-k
-    loop-less
-    loop-again
+    begin-requires
+    begin-requires-2
+    go-on-requires
     same-length
-    returns)
+    returns
+    same-length-2
+    returns-2)
