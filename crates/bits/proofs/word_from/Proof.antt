@@ -1,88 +1,47 @@
--- `bits::word_from` meets its contract: a byte a turn. Assumes nothing.
-use Prim.Native.Nat.{_-_}
+-- `bits::word_from` meets its contract: near the end the bytes are cut out with zeros behind them. Assumes nothing.
 use mathlib.Core.Path.{_∙_}
 use native.Mathlib.Omega.{arith}
 use denote.Ref.{now}
-use Rattle.bits.specs.Bits.{bitAt, byteOf, from}
-use Rattle.bits.proofs.Lists.{Filled, filled-more}
-use Rattle.bits.proofs.LoopLaws.{loops}
-use Rattle.bits.proofs.Packing.{num-window-from}
+use Rattle.bits.proofs.Packing.{cut-bits}
+use borrow.Author.Needs.{needs}
 use Rattle.bits.proofs.word_from.Statement.{statement}
 use Rattle.bits.proofs.word_from.Tie as tie
 use Rattle.bits.proofs.word_from.Reads as reads
 use Rattle.bits.proofs.word_from.Lts as lts
-use Rattle.bits.proofs.byte_at.Reads as byte-at-reads
-use Rattle.bits.proofs.eight_of.Reads as eight-of-reads
+use Rattle.bits.proofs.seventeen.Reads as seventeen-reads
+use Rattle.bits.proofs.word_inside.Reads as word-inside-reads
 
-abbrev Inv-loop : tie.InvT-loop
-Inv-loop s i first down r₀ k₀ r k = Filled k (byteOf (from (bitAt s) i)) r₀ r
+add-if1 : tie.Need-add-if1
+add-if1 c = search needs
 
-abbrev μ-loop : tie.MeasureT-loop
-μ-loop s i first down r₀ k₀ r k = 16 - k
+word-inside-requires : tie.Need-word-inside-requires
+word-inside-requires c κs = search needs
 
-sub-down : tie.Need-sub-down Inv-loop μ-loop
-sub-down c = search loops
+returns : tie.Need-returns
+returns c = search needs
 
-cast-down : tie.Need-cast-down Inv-loop μ-loop
-cast-down c = search loops
+seventeen-requires : tie.Need-seventeen-requires
+seventeen-requires c κs = search needs
 
-loop-holds : tie.Need-loop-holds Inv-loop μ-loop
-loop-holds c = search loops
+slice-aggregate-word-inside : tie.Need-slice-aggregate-word-inside
+slice-aggregate-word-inside c = search needs
 
-add-byte-at : tie.Need-add-byte-at Inv-loop μ-loop
-add-byte-at c = search loops
+word-inside-requires-2 : tie.Need-word-inside-requires-2
+word-inside-requires-2 c κs = search needs
 
-byte-at-requires : tie.Need-byte-at-requires Inv-loop μ-loop
-byte-at-requires c κs = search loops
-
-add-byte-at-2 : tie.Need-add-byte-at-2 Inv-loop μ-loop
-add-byte-at-2 c = search loops
-
-add-byte-at-3 : tie.Need-add-byte-at-3 Inv-loop μ-loop
-add-byte-at-3 c = search loops
-
-byte-at-requires-2 : tie.Need-byte-at-requires-2 Inv-loop μ-loop
-byte-at-requires-2 c κs = search loops
-
-eight-of-requires : tie.Need-eight-of-requires Inv-loop μ-loop
-eight-of-requires c κs = search loops
-
-array-write-r : tie.Need-array-write-r Inv-loop μ-loop
-array-write-r c = search loops
-
-add-k : tie.Need-add-k Inv-loop μ-loop
-add-k c = search loops
-
-loop-less : tie.Need-loop-less Inv-loop μ-loop
-loop-less c = search loops
-
-loop-again : tie.Need-loop-again Inv-loop μ-loop
-loop-again c =
-    let a = c .before .before .before .before .before .before .args in
-    let e = c .eight-of .ensures in
-    filled-more (c .before .before .before .before .loop .inv) (c .before .before .before .loop-test .taken)
-    (e .is ∙ num-window-from 8 (now (a .s)) (a .i) (c .before .before .before .before .loop .k) _ _ (omega arith) (e .high) (e .low) (c .before .before .byte-at .ensures) (c .before .byte-at2 .ensures))
-
-returns : tie.Need-returns Inv-loop μ-loop
-returns c = search loops
+returns-2 : tie.Need-returns-2
+returns-2 c =
+    let a = c .before .before .before .before .before .args in
+    c .word-inside2 .ensures ∙ cut-bits 8 16 (now (a .s)) _ (a .i) (omega arith) (c .before .before .seventeen .ensures)
 
 pub word-from-spec : {M : Type 1} → statement M
 word-from-spec =
     tie.close
     (tie.spec
-    Inv-loop
-    μ-loop
-    sub-down
-    cast-down
-    loop-holds
-    add-byte-at
-    byte-at-requires
-    add-byte-at-2
-    add-byte-at-3
-    byte-at-requires-2
-    eight-of-requires
-    array-write-r
-    add-k
-    loop-less
-    loop-again
-    returns)
+    add-if1
+    word-inside-requires
+    returns
+    seventeen-requires
+    slice-aggregate-word-inside
+    word-inside-requires-2
+    returns-2)

@@ -1,0 +1,87 @@
+-- `bits::word_inside` meets its contract: a byte a turn. Assumes nothing.
+use Prim.Native.Nat.{_-_}
+use mathlib.Core.Path.{refl, _∙_}
+use native.Mathlib.Omega.{arith}
+use denote.Ref.{now}
+use Rattle.bits.specs.Bits.{bitAt, byteOf, from}
+use Rattle.bits.proofs.Lists.{Filled, filled-more}
+use Rattle.bits.proofs.LoopLaws.{loops}
+use Rattle.bits.proofs.Packing.{num-window-from}
+use Rattle.bits.proofs.word_inside.Statement.{statement}
+use Rattle.bits.proofs.word_inside.Tie as tie
+use Rattle.bits.proofs.word_inside.Reads as reads
+use Rattle.bits.proofs.word_inside.Lts as lts
+use Rattle.bits.proofs.eight_of.Reads as eight-of-reads
+
+abbrev Inv-loop : tie.InvT-loop
+Inv-loop s i first down r₀ k₀ r k = Filled k (byteOf (from (bitAt s) i)) r₀ r
+
+abbrev μ-loop : tie.MeasureT-loop
+μ-loop s i first down r₀ k₀ r k = 16 - k
+
+sub-down : tie.Need-sub-down Inv-loop μ-loop
+sub-down c = search loops
+
+cast-down : tie.Need-cast-down Inv-loop μ-loop
+cast-down c = search loops
+
+loop-holds : tie.Need-loop-holds Inv-loop μ-loop
+loop-holds c = search loops
+
+add-eight-of : tie.Need-add-eight-of Inv-loop μ-loop
+add-eight-of c = search loops
+
+shared-slice-read-eight-of : tie.Need-shared-slice-read-eight-of Inv-loop μ-loop
+shared-slice-read-eight-of c = search loops
+
+add-eight-of-2 : tie.Need-add-eight-of-2 Inv-loop μ-loop
+add-eight-of-2 c = search loops
+
+add-eight-of-3 : tie.Need-add-eight-of-3 Inv-loop μ-loop
+add-eight-of-3 c = search loops
+
+shared-slice-read-eight-of-2 : tie.Need-shared-slice-read-eight-of-2 Inv-loop μ-loop
+shared-slice-read-eight-of-2 c = search loops
+
+eight-of-requires : tie.Need-eight-of-requires Inv-loop μ-loop
+eight-of-requires c κs = search loops
+
+array-write-r : tie.Need-array-write-r Inv-loop μ-loop
+array-write-r c = search loops
+
+add-k : tie.Need-add-k Inv-loop μ-loop
+add-k c = search loops
+
+loop-less : tie.Need-loop-less Inv-loop μ-loop
+loop-less c = search loops
+
+loop-again : tie.Need-loop-again Inv-loop μ-loop
+loop-again c =
+    let a = c .before .before .before .before .before .before .args in
+    let h = c .before .before .before .before .loop in
+    let e = c .eight-of .ensures in
+    filled-more (h .inv) (c .before .before .before .loop-test .taken) (e .is ∙ num-window-from 8 (now (a .s)) (a .i) (h .k) _ _ (omega arith) (e .high) (e .low) refl refl)
+
+returns : tie.Need-returns Inv-loop μ-loop
+returns c = search loops
+
+pub word-inside-spec : {M : Type 1} → statement M
+word-inside-spec =
+    tie.close
+    (tie.spec
+    Inv-loop
+    μ-loop
+    sub-down
+    cast-down
+    loop-holds
+    add-eight-of
+    shared-slice-read-eight-of
+    add-eight-of-2
+    add-eight-of-3
+    shared-slice-read-eight-of-2
+    eight-of-requires
+    array-write-r
+    add-k
+    loop-less
+    loop-again
+    returns)
