@@ -5,6 +5,7 @@ use Rattle.bits.proofs.Common.{only}
 use Rattle.line.proofs.super_allowed.Reads as super-allowed
 use Rattle.line.proofs.mbas_allowed.Reads as mbas-allowed
 use Rattle.line.proofs.mbas.Reads as mbas
+use Rattle.line.proofs.slot.Reads as slot
 use Rattle.line.proofs.element_in.Reads as element-in
 use Rattle.line.proofs.holds_element.Reads as holds-element
 use Rattle.line.proofs.sum.Reads as sum
@@ -18,6 +19,9 @@ one-mbas-allowed κs a x y s t p q = only p q
 
 pub one-mbas : (κs : _) (a : _) (x y : _) (s t : _) → mbas.Post κs a x s → mbas.Post κs a y t → x ≡ y
 one-mbas κs a x y s t p q = only p q
+
+pub one-slot : (κs : _) (a : _) (x y : _) (s t : _) → slot.Post κs a x s → slot.Post κs a y t → x ≡ y
+one-slot κs a x y s t p q = only p q
 
 pub one-element-in : (κs : _) (a : _) (x y : _) (s t : _) → element-in.Post κs a x s → element-in.Post κs a y t → x ≡ y
 one-element-in κs a x y s t p q = only p q

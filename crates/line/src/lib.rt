@@ -1,11 +1,11 @@
 // The line: total functions for the layers of document 01 that coding, reading and editing share.
 ghost use mathlib.Core.Path.{_≡_};
-ghost use Prim.Native.Nat.{_<_};
-ghost use lib.ListN.{getD};
+ghost use Prim.Native.Nat.{_/_, _<_};
+ghost use lib.ListN.{length, getD};
 ghost use Rattle.bits.specs.Bits.{bitAt, pack, added};
 ghost use Rattle.line.specs.Captures.{superAllowed};
 ghost use Rattle.line.specs.Fec.{mbasAllowed, mbasOf};
-ghost use Rattle.line.specs.Slots.{delay, elementIn, holds};
+ghost use Rattle.line.specs.Slots.{slotOf, delay, elementIn, holds};
 ghost use Rattle.line.specs.Words.{symbolPlace, wordIn};
 
 // Whether a capture may have n super frames.
@@ -27,6 +27,13 @@ pub fn mbas(m0: u64, t: u64) -> u8
     ensures { λ r. ⌜ r ≡ mbasOf m0 t ⌝ }
 {
     ((m0 % 64 + t % 64) % 64) as u8
+}
+
+// The slot of element e.
+pub fn slot(e: u32) -> usize
+    ensures { λ r. ⌜ r ≡ slotOf e ⌝ }
+{
+    e as usize + 32 * (15 - e as usize % 16)
 }
 
 // How many words an element waits, by the row of its word.
@@ -86,8 +93,21 @@ fn symbol(capture: &[u8], w: usize, k: usize) -> u8
     capture[group + at]
 }
 
-// The sixteen bytes of word w of a capture; zeros past the end.
-pub fn word_in(capture: &[u8], w: usize) -> [u8; 16]
+// The sixteen bytes of word w where the capture has the whole of its group: no byte is tested.
+fn word_inside(capture: &[u8], w: usize) -> [u8; 16]
+    requires { ⌜ w / 8 < length (now capture) / 128 ⌝ }
+    ensures { λ r. ⌜ r ≡ wordIn (now (capture .entry)) w ⌝ }
+{
+    let at = 128 * (w / 8) + w % 8;
+    let mut r = [0u8; 16];
+    for k in 0..16 {
+        r[k] = capture[at + 8 * k];
+    }
+    r
+}
+
+// The same anywhere.
+fn word_tested(capture: &[u8], w: usize) -> [u8; 16]
     ensures { λ r. ⌜ r ≡ wordIn (now (capture .entry)) w ⌝ }
 {
     let mut r = [0u8; 16];
@@ -95,4 +115,15 @@ pub fn word_in(capture: &[u8], w: usize) -> [u8; 16]
         r[k] = symbol(capture, w, k);
     }
     r
+}
+
+// The sixteen bytes of word w of a capture; zeros past the end.
+pub fn word_in(capture: &[u8], w: usize) -> [u8; 16]
+    ensures { λ r. ⌜ r ≡ wordIn (now (capture .entry)) w ⌝ }
+{
+    if w / 8 < capture.len() / 128 {
+        word_inside(capture, w)
+    } else {
+        word_tested(capture, w)
+    }
 }

@@ -1,12 +1,12 @@
--- `line::word_in` meets its contract. Assumes nothing.
+-- `line::word_tested` meets its contract. Assumes nothing.
 use Prim.Native.Nat.{_-_}
 use Rattle.bits.proofs.Lists.{Filled}
 use Rattle.bits.proofs.LoopLaws.{loops}
 use Rattle.line.specs.Words.{wordIn, symbolOf}
-use Rattle.line.proofs.word_in.Statement.{statement}
-use Rattle.line.proofs.word_in.Tie as tie
-use Rattle.line.proofs.word_in.Reads as reads
-use Rattle.line.proofs.word_in.Lts as lts
+use Rattle.line.proofs.word_tested.Statement.{statement}
+use Rattle.line.proofs.word_tested.Tie as tie
+use Rattle.line.proofs.word_tested.Reads as reads
+use Rattle.line.proofs.word_tested.Lts as lts
 use Rattle.line.proofs.symbol.Reads as symbol-reads
 
 abbrev Inv-loop : tie.InvT-loop
@@ -37,8 +37,8 @@ returns : tie.Need-returns Inv-loop μ-loop
 unfolding wordIn
 returns c = search loops
 
-pub word-in-spec : {M : Type 1} → statement M
-word-in-spec =
+pub word-tested-spec : {M : Type 1} → statement M
+word-tested-spec =
     tie.close
     (tie.spec
     Inv-loop
