@@ -2,9 +2,13 @@
 -- `ensures`, so a weaker contract would not pass here. Assumes nothing.
 use mathlib.Core.Path.{_≡_}
 use Rattle.bits.proofs.Common.{only}
+use Rattle.crc.proofs.take.Reads as take
 use Rattle.crc.proofs.table.Reads as table
 use Rattle.crc.proofs.remainder.Reads as remainder
 use Rattle.crc.proofs.crc.Reads as crc
+
+pub one-take : (κs : _) (a : _) (x y : _) (s t : _) → take.Post κs a x s → take.Post κs a y t → x ≡ y
+one-take κs a x y s t p q = only p q
 
 pub one-table : (κs : _) (a : _) (x y : _) (s t : _) → table.Post κs a x s → table.Post κs a y t → x ≡ y
 one-table κs a x y s t p q = only p q

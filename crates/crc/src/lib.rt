@@ -1,6 +1,6 @@
 // The CRC of an FEC block, a byte at a time. The table is made once and lent: a constant one would be copied at every use.
 ghost use mathlib.Core.Path.{_≡_};
-ghost use Prim.Native.Nat.{_*_, _<_};
+ghost use Prim.Native.Nat.{_*_, _%_, _<_};
 ghost use lib.ListN.{length};
 ghost use Rattle.crc.specs.Crc.{step};
 ghost use Rattle.crc.specs.ByBytes.{entryOf, entries, byteStep, remBy, opening, crcBy};
@@ -15,6 +15,13 @@ fn take_bit(r: u32, b: u32) -> u32
     ensures { λ x. ⌜ x ≡ step r b ⌝ }
 {
     (r << 1) ^ ((r >> 31) % 2 * POLY) ^ (b * POLY)
+}
+
+// The remainder r takes in one more bit, the lowest of b.
+pub fn take(r: u32, b: u8) -> u32
+    ensures { λ x. ⌜ x ≡ step r (b % 2) ⌝ }
+{
+    take_bit(r, (b % 2) as u32)
 }
 
 // What the eight lowest bits of b leave.
