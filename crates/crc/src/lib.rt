@@ -2,7 +2,7 @@
 ghost use mathlib.Core.Path.{_≡_};
 ghost use Prim.Native.Nat.{_*_, _%_, _<_};
 ghost use lib.ListN.{length};
-ghost use Rattle.crc.specs.Crc.{step};
+ghost use Rattle.crc.specs.Crc.{step, shiftN};
 ghost use Rattle.crc.specs.ByBytes.{entryOf, entries, byteStep, remBy, opening, crcBy};
 
 const POLY: u32 = 0x04C11DB7;
@@ -81,4 +81,15 @@ pub fn crc(t: &[u32; 256], s: &[u8]) -> u32
     ensures { λ r. ⌜ r ≡ crcBy (now (t .entry)) (now (s .entry)) ⌝ }
 {
     ONES ^ remainder(t, opening_for(s.len()), s)
+}
+
+// What r·x^m leaves: r followed by m zero bits.
+pub fn shifted(r: u32, m: u64) -> u32
+    ensures { λ x. ⌜ x ≡ shiftN m r ⌝ }
+{
+    let mut x = r;
+    for i in 0..m {
+        x = take(x, 0);
+    }
+    x
 }
