@@ -2,3 +2,4 @@
 pub mod Crc
 pub mod Division
 pub mod ByBytes
+pub mod Powers

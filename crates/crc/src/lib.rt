@@ -1,20 +1,29 @@
 // The CRC of an FEC block, a byte at a time. The table is made once and lent: a constant one would be copied at every use.
+// A change of few bits needs neither: `take` goes over those bits, and `shifted` over all that stand behind them at once.
 ghost use mathlib.Core.Path.{_≡_};
 ghost use Prim.Native.Nat.{_*_, _%_, _<_};
 ghost use lib.ListN.{length};
-ghost use Rattle.crc.specs.Crc.{step, shiftN};
+ghost use Rattle.crc.specs.Crc.{shift, step, shiftN};
 ghost use Rattle.crc.specs.ByBytes.{entryOf, entries, byteStep, remBy, opening, crcBy};
+ghost use Rattle.crc.specs.Powers.{product};
 
 const POLY: u32 = 0x04C11DB7;
 
 const ONES: u32 = 0xFFFFFFFF;
+
+// What r·x leaves.
+fn times_x(r: u32) -> u32
+    ensures { λ x. ⌜ x ≡ shift r ⌝ }
+{
+    (r << 1) ^ ((r >> 31) % 2 * POLY)
+}
 
 // The remainder r takes in one more bit.
 fn take_bit(r: u32, b: u32) -> u32
     requires { ⌜ b < 2 ⌝ }
     ensures { λ x. ⌜ x ≡ step r b ⌝ }
 {
-    (r << 1) ^ ((r >> 31) % 2 * POLY) ^ (b * POLY)
+    times_x(r) ^ (b * POLY)
 }
 
 // The remainder r takes in one more bit, the lowest of b.
@@ -22,6 +31,36 @@ pub fn take(r: u32, b: u8) -> u32
     ensures { λ x. ⌜ x ≡ step r (b % 2) ⌝ }
 {
     take_bit(r, (b % 2) as u32)
+}
+
+// What a·b leaves: Horner's rule, the digits of b from the top.
+fn multiply(a: u32, b: u32) -> u32
+    ensures { λ x. ⌜ x ≡ product a b ⌝ }
+{
+    let mut r: u32 = 0;
+    for j in 0..32u32 {
+        r = times_x(r) ^ ((b >> (31 - j)) % 2 * a);
+    }
+    r
+}
+
+// What x^m leaves. Below x^32 that is x^m itself; from there on it is the square of a lower power, times x where m is odd.
+fn power(m: u64) -> u32
+    ensures { λ x. ⌜ x ≡ shiftN m 1 ⌝ }
+{
+    if m < 32 {
+        return 1u32 << m;
+    }
+    let half = power(m / 2);
+    let square = multiply(half, half);
+    if m % 2 == 0 { square } else { times_x(square) }
+}
+
+// What r·x^m leaves: r followed by m zero bits.
+pub fn shifted(r: u32, m: u64) -> u32
+    ensures { λ x. ⌜ x ≡ shiftN m r ⌝ }
+{
+    multiply(power(m), r)
 }
 
 // What the eight lowest bits of b leave.
@@ -81,15 +120,4 @@ pub fn crc(t: &[u32; 256], s: &[u8]) -> u32
     ensures { λ r. ⌜ r ≡ crcBy (now (t .entry)) (now (s .entry)) ⌝ }
 {
     ONES ^ remainder(t, opening_for(s.len()), s)
-}
-
-// What r·x^m leaves: r followed by m zero bits.
-pub fn shifted(r: u32, m: u64) -> u32
-    ensures { λ x. ⌜ x ≡ shiftN m r ⌝ }
-{
-    let mut x = r;
-    for i in 0..m {
-        x = take(x, 0);
-    }
-    x
 }

@@ -11,10 +11,8 @@ use Rattle.bits.proofs.Common.{by-bound}
 use Rattle.bits.proofs.Lists.{getD-tabulate, getD-past}
 use Rattle.bits.proofs.Numbers.{num-zero, num-lt}
 use Rattle.bits.proofs.Packing.{bitOf-at, bitOf-packs, length-packs}
-use Rattle.crc.specs.Crc.{remFrom, remOf}
-use Rattle.crc.specs.ByBytes.{entries, remBy}
-use Rattle.crc.proofs.Linear.{rem-ext}
-use Rattle.crc.proofs.Bytewise.{bytes-rem}
+use Rattle.crc.specs.Crc.{remOf, shiftN}
+use Rattle.crc.proofs.Linear.{alone}
 use Rattle.scrambler.specs.Scrambler.{o, frameBytes}
 use Rattle.scrambler.proofs.Rule.{o-lt}
 use Rattle.line.specs.Sizes.{blockBits, infoBits, fecBits, fecBlocks, superBits, elementBits, superElements, fecElements}
@@ -23,7 +21,7 @@ use Rattle.line.specs.Slots.{slotOf}
 use Rattle.line.specs.Words.{symbolPlace, wordIn, elementFrom, superIn, fecIn}
 use Rattle.line.proofs.WordLaws.{word-symbol}
 use Rattle.editor.specs.Edit.{blockFrom, inBlock, replaced, change, crcChange, elementFec, elementLocal}
-use Rattle.editor.proofs.Touching.{block-before, block-past}
+use Rattle.editor.proofs.Touching.{block-in, block-before, block-past}
 
 -- ---- what is read
 
@@ -65,38 +63,24 @@ pub change-out : (b : ℕ) (bits : List ℕ) (f : ℕ → ℕ) (i : ℕ) → inB
 unfolding change replaced
 change-out b bits f i h = rw h (same-twice (f i))
 
-pub change-in : (b : ℕ) (bits : List ℕ) (f : ℕ → ℕ) (i : ℕ) → inBlock b i ≡ true → change b bits f i ≡ (f i + bitAt bits (i - blockFrom b)) % 2
+-- bit j of the block
+pub change-at : (b : ℕ) (bits : List ℕ) (f : ℕ → ℕ) (j : ℕ) → j < blockBits → change b bits f (blockFrom b + j) ≡ (f (blockFrom b + j) + bitAt bits j) % 2
 unfolding change replaced
-change-in b bits f i h = rw h
+change-at b bits f j h =
+    let e : blockFrom b + j - blockFrom b ≡ j = omega arith in
+    rw (block-in b (blockFrom b + j) (omega arith) (omega arith), e)
 
 pub change-bits : (b : ℕ) (bits : List ℕ) (f : ℕ → ℕ) → Bits (change b bits f)
 unfolding change
 change-bits b bits f i = omega arith
 
--- before and behind the block the bytes are zero
-pub byte-before : (b : ℕ) (bits : List ℕ) (f : ℕ → ℕ) (k : ℕ) → 8 * k + 8 ≤ blockFrom b → 0 ≡ byteOf (change b bits f) k
-byte-before b bits f k h =
-    sym (num-zero 8 (change b bits f) (8 * k) (λ j l. change-out b bits f (8 * k + j) (block-before b (8 * k + j) (omega arith))))
+-- ---- what they leave
 
-pub byte-past : (b : ℕ) (bits : List ℕ) (f : ℕ → ℕ) (k : ℕ) → blockFrom b + blockBits ≤ 8 * k → 0 ≡ byteOf (change b bits f) k
-byte-past b bits f k h =
-    sym (num-zero 8 (change b bits f) (8 * k) (λ j l. change-out b bits f (8 * k + j) (block-past b (8 * k + j) (omega arith))))
-
--- ---- what it leaves
-
-packed-bytes : (n : ℕ) (f : ℕ → ℕ) → Bits f → Bytes (pack n f)
-packed-bytes n f b k =
-    by-bound n k (λ h. rw (getD-tabulate 0 n (λ j. num 8 f (8 * j)) k h) (num-lt 8 f (8 * k) b)) (λ h. rw (getD-past 0 n (λ j. num 8 f (8 * j)) k h) (lit< tt))
-
--- of bits packed into n bytes, by the table
-pub packed-rem : (t s : List ℕ) (n : ℕ) (f : ℕ → ℕ) → t ≡ entries → s ≡ pack n f → Bits f → remBy t 0 s ≡ remOf f (8 * n)
-packed-rem t s n f e p b =
-    ap (remBy t 0) p
-    ∙ bytes-rem t (pack n f) 0 e (packed-bytes n f b) (pow-pos 32)
-    ∙ ap (λ (m : ℕ). remFrom 0 (bitAt (pack n f)) (8 * m)) (length-packs 8 n f)
-    ∙ rem-ext 0 (bitAt (pack n f)) f (8 * n) (λ i l. bitOf-packs 8 n f i b l)
-
-pub crc-changes : (t s : List ℕ) (n b : ℕ) (bits : List ℕ) (f : ℕ → ℕ) → t ≡ entries → s ≡ pack n (change b bits f) → 8 * n ≡ infoBits → remBy t 0 s ≡ crcChange b bits f
+-- THE CHANGE OF THE CRC: what the block's own changed bits leave, shifted by what follows them
+pub crc-changes : (b : ℕ) (bits : List ℕ) (f : ℕ → ℕ) (m : ℕ) → blockFrom b + (blockBits + m) ≡ infoBits
+    → shiftN m (remOf (λ i. change b bits f (blockFrom b + i)) blockBits) ≡ crcChange b bits f
 unfolding crcChange
-crc-changes t s n b bits f e p q =
-    packed-rem t s n (change b bits f) e p (change-bits b bits f) ∙ ap (remOf (change b bits f)) q
+crc-changes b bits f m e =
+    sym (ap (remOf (change b bits f)) (sym e)
+    ∙ alone (change b bits f) (blockFrom b) blockBits m (λ i l. change-out b bits f i (block-before b i l))
+    (λ i l. change-out b bits f (blockFrom b + (blockBits + i)) (block-past b (blockFrom b + (blockBits + i)) (omega arith))))

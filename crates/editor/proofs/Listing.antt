@@ -1,7 +1,7 @@
 -- Which words are listed: what `listed` means, how many there are, and the list of them. Assumes nothing.
 use Prim.Native.Nat.{ℕ, suc, _+_, _-_, _*_, _/_, _%_, _≤_, _<_}
-use mathlib.Core.Bool.{true, false, cond, not, _&&_}
-use mathlib.Core.Path.{_≡_, sym, ap, _∙_}
+use mathlib.Core.Bool.{Bool, true, false, cond, not, _&&_}
+use mathlib.Core.Path.{_≡_, refl, sym, ap, _∙_}
 use mathlib.Core.List.{List}
 use native.Mathlib.Decide.{decLt}
 use native.Mathlib.Omega.{arith}
@@ -11,10 +11,11 @@ use Rattle.bits.specs.Loops.{count}
 use Rattle.bits.proofs.Common.{clash, and-left, and-right}
 use Rattle.hamming.specs.Code.{checksOf}
 use Rattle.line.specs.Words.{wordIn}
-use Rattle.line.specs.Sizes.{fecBlocks, elementBits, superElements, fecElements, infoElements}
-use Rattle.line.specs.Slots.{slotOf, elementIn, holds}
+use Rattle.line.specs.Sizes.{fecBlocks, elementBits, superElements, fecElements, infoElements, words}
+use Rattle.line.specs.Slots.{slotOf, delay, elementIn, holds}
 use Rattle.line.proofs.SlotLaws.{held}
-use Rattle.editor.specs.Edit.{fecOf, blockFrom, elementFec, elementLocal, isPad, touches, listed, fails}
+use Rattle.editor.specs.Edit.{blocksOf, fecOf, blockFrom, elementFec, elementLocal, isPad, touches, listed, fails}
+use Rattle.editor.specs.Parts.{firstElement, stretchFrom, stretchTo}
 use Rattle.editor.proofs.Touching.{Touch, touches-at, touches-some, element-before, element-past}
 use Rattle.editor.proofs.Picking.{In, count-few}
 
@@ -67,19 +68,7 @@ pub listed-empty : (N b w : ℕ) → holds N w ≡ false → false ≡ listed N 
 unfolding listed
 listed-empty N b w h = rw h
 
-pub listed-pad : (N b w : ℕ) → holds N w ≡ true → fecElements * fecBlocks ≤ elementIn w % superElements → false ≡ listed N b w
-unfolding listed isPad
-listed-pad N b w h l = rw (h, le-leb (fecElements * fecBlocks) (elementIn w % superElements) l)
-
-pub listed-elsewhere : (N b w : ℕ) → holds N w ≡ true → elementIn w % superElements < fecElements * fecBlocks → (elementFec (elementIn w) ≡ fecOf b → ⊥) → false ≡ listed N b w
-unfolding listed
-listed-elsewhere N b w h l n = rw (h, no-pad-test (elementIn w) l, ne-eqb (elementFec (elementIn w)) (fecOf b) n)
-
-pub listed-touches : (N b w : ℕ) → holds N w ≡ true → elementIn w % superElements < fecElements * fecBlocks → elementFec (elementIn w) ≡ fecOf b
-    → touches b (elementBits * elementLocal (elementIn w)) elementBits ≡ listed N b w
-unfolding listed
-listed-touches N b w h l e = rw (h, no-pad-test (elementIn w) l, eq-eqb (elementFec (elementIn w)) (fecOf b) e)
-
+-- by the first element of the FEC block
 -- number 9
 pub fails-unlisted : (N b : ℕ) (cap : List ℕ) (w : ℕ) → listed N b w ≡ false → false ≡ fails N b cap w
 unfolding fails
@@ -91,16 +80,12 @@ fails-listed N b cap w h = rw h
 
 -- ---- how many there are
 
--- the first element of the client block's FEC block, and the k-th of the elements that hold a touched bit: first the last 138, then the
--- client block's own
-abbrev pub start : ℕ → ℕ
-start b = superElements * (fecOf b / fecBlocks) + fecElements * (fecOf b % fecBlocks)
-
+-- the k-th of the elements that hold a touched bit, within their FEC block: first the last 138, then the client block's own
 unfoldable pub own : ℕ → ℕ → ℕ
 own b k = cond (ltb k 138) (infoElements + k) (blockFrom b / elementBits + (k - 138))
 
 unfoldable pub slotNo : ℕ → ℕ → ℕ
-slotNo b k = slotOf (start b + own b k)
+slotNo b k = slotOf (firstElement b + own b k)
 
 pub own-tail : (b k : ℕ) → k < 138 → own b k ≡ infoElements + k
 unfolding own
@@ -115,7 +100,7 @@ unfoldable pub listedCount : ℕ → ℕ
 listedCount b = 138 + suc ((blockFrom b + 256) / elementBits - blockFrom b / elementBits)
 
 -- the element by its FEC block and its local number
-element-is : (b e : ℕ) → e % superElements < fecElements * fecBlocks → elementFec e ≡ fecOf b → e ≡ start b + elementLocal e
+element-is : (b e : ℕ) → e % superElements < fecElements * fecBlocks → elementFec e ≡ fecOf b → e ≡ firstElement b + elementLocal e
 unfolding elementFec elementLocal
 element-is b e h q =
     let f : fecOf b / fecBlocks ≡ e / superElements = omega arith in
@@ -150,7 +135,7 @@ listed-slot N b w h =
     record {
       index = i .index;
       within = i .within;
-      is = sym (held N w (l .element) .back) ∙ ap slotOf (element-is b e (l .no-pad) (l .block) ∙ ap (λ (m : ℕ). start b + m) (i .is));
+      is = sym (held N w (l .element) .back) ∙ ap slotOf (element-is b e (l .no-pad) (l .block) ∙ ap (λ (m : ℕ). firstElement b + m) (i .is));
     }
 
 pub listed-count-le : (b : ℕ) → listedCount b ≤ 142
@@ -164,3 +149,81 @@ listed-count-ge b = omega arith
 -- AT MOST 142, however far a pass has come
 pub listed-few : (N b n : ℕ) → count (listed N b) n ≤ 142
 listed-few N b n = omega (arith, listed-count-le b, count-few (slotNo b) (listedCount b) (listed N b) n (listed-slot N b))
+
+-- ---- by the number of the element within the FEC block
+
+-- local element m of FEC block c of super frame f
+module _ (f c m : ℕ) (hc : c < fecBlocks) (hm : m < fecElements) where
+  at-mod : (superElements * f + fecElements * c + m) % superElements ≡ fecElements * c + m
+  at-mod = omega arith
+
+  at-div : (superElements * f + fecElements * c + m) / superElements ≡ f
+  at-div = omega arith
+
+  at-fec : elementFec (superElements * f + fecElements * c + m) ≡ fecBlocks * f + c
+  unfolding elementFec
+  at-fec = rw (at-mod, at-div) (omega arith)
+
+  at-local : elementLocal (superElements * f + fecElements * c + m) ≡ m
+  unfolding elementLocal
+  at-local = rw at-mod (omega arith)
+
+pub own-element : (b m : ℕ) → m < fecElements → (firstElement b + m) % superElements < fecElements * fecBlocks
+own-element b m h = rw (at-mod (fecOf b / fecBlocks) (fecOf b % fecBlocks) m (omega arith) h) (omega arith)
+
+pub own-fec : (b m : ℕ) → m < fecElements → (elementFec (firstElement b + m) ≡ fecOf b) × (elementLocal (firstElement b + m) ≡ m)
+own-fec b m h = (
+  at-fec (fecOf b / fecBlocks) (fecOf b % fecBlocks) m (omega arith) h ∙ (omega arith),
+  at-local (fecOf b / fecBlocks) (fecOf b % fecBlocks) m (omega arith) h,
+)
+
+-- an element of another FEC block, or of the pad
+pub listed-elsewhere : (N b w : ℕ) → ((m : ℕ) → m < fecElements → elementIn w ≡ firstElement b + m → ⊥) → false ≡ listed N b w
+listed-elsewhere N b w n = by (listed N b w) refl
+  where
+    by : (t : Bool) → listed N b w ≡ t → false ≡ listed N b w
+    by true h = let l = listed-holding N b w h in absurd (n (elementLocal (elementIn w)) (local-lt (elementIn w)) (element-is b (elementIn w) (l .no-pad) (l .block)))
+    by false h = sym h
+
+-- one of the client block's FEC block
+pub listed-touches : (N b w m : ℕ) → holds N w ≡ true → m < fecElements → elementIn w ≡ firstElement b + m → touches b (elementBits * m) elementBits ≡ listed N b w
+unfolding listed
+listed-touches N b w m h l e =
+    let f = own-fec b m l in
+    rw (h, e, no-pad-test (firstElement b + m) (own-element b m l), f .1, eq-eqb (elementFec (firstElement b + m)) (fecOf b) (f .0))
+
+-- ---- the stretch of words that can be listed
+
+own-from : (b k : ℕ) → k < listedCount b → (blockFrom b / elementBits ≤ own b k) × (own b k < fecElements)
+unfolding listedCount
+own-from b k h = by (decLt k 138)
+  where
+    by : Dec (k < 138) → (blockFrom b / elementBits ≤ own b k) × (own b k < fecElements)
+    by (yes l) = rw (own-tail b k l) (omega arith, omega arith)
+    by (no l) =
+        let e : k ≡ 138 + (k - 138) = omega arith in
+        rw e (rw (own-block b (k - 138)) (omega arith, omega arith))
+
+pub record Within (b w : ℕ) : Type 0 where
+  pub above : stretchFrom b ≤ w
+  pub below : w < stretchTo b
+
+pub listed-within : (N b w : ℕ) → listed N b w ≡ true → Within b w
+unfolding slotNo slotOf delay
+listed-within N b w h =
+    let i = listed-slot N b w h in
+    let o = own-from b (i .index) (i .within) in
+    record { above = omega (arith, i .is, o .0, o .1); below = omega (arith, i .is, o .0, o .1) }
+
+pub listed-outside : (N b w : ℕ) → (Within b w → ⊥) → listed N b w ≡ false
+listed-outside N b w n = by (listed N b w) refl
+  where
+    by : (t : Bool) → listed N b w ≡ t → listed N b w ≡ false
+    by true h = absurd (n (listed-within N b w h))
+    by false h = h
+
+pub fails-outside : (N b : ℕ) (cap : List ℕ) (w : ℕ) → (Within b w → ⊥) → fails N b cap w ≡ false
+fails-outside N b cap w n = sym (fails-unlisted N b cap w (listed-outside N b w n))
+
+pub stretch-in : (N b : ℕ) → b < blocksOf N → stretchTo b ≤ words N
+stretch-in N b h = omega arith

@@ -1,10 +1,10 @@
 -- A word put into a capture, and the pass that makes the listed words anew: where it starts, a turn, where it ends. Assumes nothing.
-use Prim.Native.Nat.{ℕ, zero, suc, _+_, _≤_, _<_}
+use Prim.Native.Nat.{ℕ, zero, suc, _+_, _-_, _≤_, _<_}
 use mathlib.Core.Bool.{Bool, true, false, cond}
 use mathlib.Core.Path.{_≡_, refl, sym, ap, ap₂, _∙_}
 use mathlib.Core.List.{List, _++_}
 use mathlib.Core.Logic.{⊎-elim}
-use native.Mathlib.Nat.{not-suc-le-zero, eq-or-lt-of-le}
+use native.Mathlib.Nat.{not-suc-le-zero, eq-or-lt-of-le, add-zero, add-suc}
 use native.Mathlib.Numerals.{add-one}
 use native.Mathlib.Decide.{ℕ-discrete}
 use native.Mathlib.Omega.{arith}
@@ -200,6 +200,16 @@ module _ (N b : ℕ) (bits parity cap₀ list₀ : List ℕ) where
     entries = p .entries ∙ listing-skip N b list₀ w t;
     counted = p .counted ∙ sym (count-no (listed N b) w t);
   }
+
+  -- words that are not listed need no turn
+  pub passing-skip : {w c : ℕ} {cap list : List ℕ} (v : ℕ) → w ≤ v → ((x : ℕ) → w ≤ x → x < v → listed N b x ≡ false) → Passing N b bits parity cap₀ list₀ w cap list c → Passing N b bits parity cap₀ list₀ v cap list c
+  passing-skip {w} {c} {cap} {list} v h n p =
+      let e : v ≡ w + (v - w) = omega arith in
+      rw e (on (v - w) (λ x l m. n x l (omega arith)))
+    where
+      on : (k : ℕ) → ((x : ℕ) → w ≤ x → x < w + k → listed N b x ≡ false) → Passing N b bits parity cap₀ list₀ (w + k) cap list c
+      on zero m = rw (add-zero w) p
+      on (suc k) m = rw (add-suc w k) (turn-no (w + k) c cap list (m (w + k) (omega arith) (omega arith)) (on k (λ x l q. m x l (omega arith))))
 
   -- a turn of the loop
   pub passing-turn : {w crc c c′ : ℕ} {cap list cap′ list′ : List ℕ} → Passing N b bits parity cap₀ list₀ w cap list c → Turned N b bits parity crc w c cap list cap′ list′ c′

@@ -17,9 +17,10 @@ use Rattle.line.specs.Words.{wordAt, symbolAt, wordIn, wordsOf, fecIn}
 use Rattle.line.proofs.SlotLaws.{element-slot, slot-lt, slot-once, holds-slot}
 use Rattle.line.proofs.WordLaws.{word-laid, word-lt, word-symbol, symbol-lt, place-back}
 use Rattle.editor.specs.Edit.{blocksOf, fecOf, blockFrom, editedFec, elementFec, elementLocal, touches, listed, listOf, editedWord, editedCapture, editRows, editAnswer}
+use Rattle.editor.specs.Parts.{firstElement}
 use Rattle.editor.proofs.Touching.{element-tail, element-block, touches-some}
 use Rattle.editor.proofs.Picking.{length-picked, picked-entry, picked-rises, picked-room, picked-has, count-few, count-many}
-use Rattle.editor.proofs.Listing.{start, own, own-tail, own-block, slotNo, listedCount, listed-slot, listed-count-ge, listed-count-le, holding-listed}
+use Rattle.editor.proofs.Listing.{own, own-element, own-fec, own-tail, own-block, slotNo, listedCount, listed-slot, listed-count-ge, listed-count-le, holding-listed}
 use Rattle.editor.proofs.Passes.{edited-long, edited-kept}
 
 -- ---- the numbers handed back
@@ -76,45 +77,22 @@ own-differ b i j h l q =
     let p : own b i ≡ blockFrom b / elementBits + (i - 138) = ap (own b) d ∙ own-block b (i - 138) in
     omega (arith, p, r)))
 
--- local element m of FEC block c of super frame f
-module _ (f c m : ℕ) (hc : c < fecBlocks) (hm : m < fecElements) where
-  at-mod : (superElements * f + fecElements * c + m) % superElements ≡ fecElements * c + m
-  at-mod = omega arith
-
-  at-div : (superElements * f + fecElements * c + m) / superElements ≡ f
-  at-div = omega arith
-
-  at-fec : elementFec (superElements * f + fecElements * c + m) ≡ fecBlocks * f + c
-  unfolding elementFec
-  at-fec = rw (at-mod, at-div) (omega arith)
-
-  at-local : elementLocal (superElements * f + fecElements * c + m) ≡ m
-  unfolding elementLocal
-  at-local = rw at-mod (omega arith)
-
 module _ (N b : ℕ) (within : b < blocksOf N) where
-  own-element : (m : ℕ) → m < fecElements → (start b + m < superElements * N) × ((start b + m) % superElements < fecElements * fecBlocks)
-  own-element m h =
-      let e = at-mod (fecOf b / fecBlocks) (fecOf b % fecBlocks) m (omega arith) h in (omega arith, rw e (omega arith))
-
-  own-fec : (m : ℕ) → m < fecElements → (elementFec (start b + m) ≡ fecOf b) × (elementLocal (start b + m) ≡ m)
-  own-fec m h = (
-    at-fec (fecOf b / fecBlocks) (fecOf b % fecBlocks) m (omega arith) h ∙ (omega arith),
-    at-local (fecOf b / fecBlocks) (fecOf b % fecBlocks) m (omega arith) h,
-  )
+  own-in : (m : ℕ) → m < fecElements → firstElement b + m < superElements * N
+  own-in m h = omega arith
 
   slot-listed : (k : ℕ) → k < listedCount b → (slotNo b k < words N) × (listed N b (slotNo b k) ≡ true)
   unfolding slotNo
   slot-listed k h =
       let m = own-lt b k h in
-      let e = start b + own b k in
-      let x = own-element (own b k) m in
-      let y = own-fec (own b k) m in
+      let e = firstElement b + own b k in
+      let x = own-in (own b k) m in
+      let y = own-fec b (own b k) m in
       let t : touches b (elementBits * elementLocal (elementIn (slotOf e))) elementBits ≡ true = rw (element-slot e, y .1) (own-touched b k h) in (
-        slot-lt N e (x .0),
+        slot-lt N e (x),
         holding-listed N b (slotOf e) (record {
-          element = holds-slot N e (x .0);
-          no-pad = rw (element-slot e) (x .1);
+          element = holds-slot N e (x);
+          no-pad = rw (element-slot e) (own-element b (own b k) m);
           block = rw (element-slot e) (y .0);
           touch = touches-some b (elementBits * elementLocal (elementIn (slotOf e))) elementBits t;
         }),
@@ -122,7 +100,7 @@ module _ (N b : ℕ) (within : b < blocksOf N) where
 
   slots-differ : (i j : ℕ) → i < j → j < listedCount b → slotNo b i ≡ slotNo b j → ⊥
   unfolding slotNo
-  slots-differ i j h l q = own-differ b i j h l (let s = slot-once (start b + own b i) (start b + own b j) q in omega (arith, s))
+  slots-differ i j h l q = own-differ b i j h l (let s = slot-once (firstElement b + own b i) (firstElement b + own b j) q in omega (arith, s))
 
   -- HOW MANY: 138 for CRC and parity, and the three or four elements of the client block
   pub listed-exactly : count (listed N b) (words N) ≡ listedCount b

@@ -1,6 +1,6 @@
 -- The steps of an edit as the code takes them: the tests in their order, a word made anew from its received bytes, a word put back into
 -- the capture, and how far a pass has come. Assumes nothing: these are definitions.
-use Prim.Native.Nat.{ℕ, _+_, _-_, _*_, _%_, _≤_, _<_}
+use Prim.Native.Nat.{ℕ, _+_, _-_, _*_, _/_, _%_, _≤_, _<_}
 use mathlib.Core.Bool.{false, cond, not}
 use mathlib.Core.Path.{_≡_}
 use mathlib.Core.List.{List, _++_}
@@ -14,11 +14,11 @@ use Rattle.answer.specs.declared.Answer.{Answer}
 use Rattle.scrambler.specs.Scrambler.{o, frameBytes}
 use Rattle.hamming.specs.Code.{coded}
 use Rattle.hamming.specs.Lent.{byteTable, tailTable}
-use Rattle.line.specs.Sizes.{crcBits, parityFrom, parityBytes, elementBits, superElements, captureLength}
+use Rattle.line.specs.Sizes.{crcBits, parityFrom, parityBytes, fecBlocks, elementBits, superElements, fecElements, captureLength}
 use Rattle.line.specs.Fec.{fields}
 use Rattle.line.specs.Slots.{elementIn}
 use Rattle.line.specs.Words.{symbolPlace, laid, wordIn}
-use Rattle.editor.specs.Edit.{blocksOf, blockBytes, listLength, inBlock, blockFrom, elementLocal, listed, picked, editedWord, spareSet}
+use Rattle.editor.specs.Edit.{blocksOf, blockBytes, listLength, fecOf, inBlock, blockFrom, elementLocal, listed, picked, editedWord, spareSet}
 
 -- ---- numbers 1 and 2, from the numbers and the four lengths alone
 
@@ -43,6 +43,19 @@ pub record Accepted (N b : ℕ) (bits parity cap list : List ℕ) : Type 0 where
   pub capture-long : length cap ≡ captureLength N
   pub list-long : length list ≡ listLength
   pub no-spare : spareSet bits ≡ false
+
+-- ---- where the listed words are
+
+-- the first element of client block b's FEC block
+abbrev pub firstElement : ℕ → ℕ
+firstElement b = superElements * (fecOf b / fecBlocks) + fecElements * (fecOf b % fecBlocks)
+
+-- the words that can be listed: from the first element of the client block on, to 480 past the last element of its FEC block
+abbrev pub stretchFrom : ℕ → ℕ
+stretchFrom b = firstElement b + blockFrom b / elementBits
+
+abbrev pub stretchTo : ℕ → ℕ
+stretchTo b = firstElement b + (fecElements + 480)
 
 -- ---- a word made anew
 

@@ -11,11 +11,11 @@ ghost use Rattle.answer.specs.Outcomes.{Outcome};
 ghost use Rattle.scrambler.specs.Scrambler.{o, frameBytes};
 ghost use Rattle.hamming.specs.Code.{checksOf};
 ghost use Rattle.hamming.specs.Lent.{byteTable};
-ghost use Rattle.line.specs.Sizes.{infoBits, infoBytes, fecBits, fecBlocks, superBits, elementBits, superElements, fecElements, infoElements, captureLength, words};
-ghost use Rattle.line.specs.Slots.{slotOf, elementIn};
+ghost use Rattle.line.specs.Sizes.{blockBits, fecBits, fecBlocks, superBits, elementBits, superElements, fecElements, infoElements, captureLength, words};
+ghost use Rattle.line.specs.Slots.{elementIn};
 ghost use Rattle.line.specs.Words.{symbolPlace, wordIn, fecIn};
-ghost use Rattle.editor.specs.Edit.{listLength, fecOf, change, crcChange, elementLocal, touches, listed, fails, spareSet, editAnswer, editLeaves};
-ghost use Rattle.editor.specs.Parts.{judged, Accepted, newInfoBit, newBit, newElement, parityElement, remade, putWord, Lent, Passing, Turned};
+ghost use Rattle.editor.specs.Edit.{blocksOf, listLength, fecOf, blockFrom, change, crcChange, elementLocal, touches, listed, fails, spareSet, editAnswer, editLeaves};
+ghost use Rattle.editor.specs.Parts.{judged, Accepted, firstElement, stretchFrom, stretchTo, newInfoBit, newBit, newElement, parityElement, remade, putWord, Lent, Passing, Turned};
 
 // Replaces client block `block` of a capture of n super frames by the 257 bits of `bits` and its FEC block's parity by `parity`, changes the
 // CRC by what the changed bits leave, and lists the words that hold any of these. The count is how many were listed.
@@ -92,22 +92,47 @@ fn holds_touched(b: usize, m: usize) -> bool
     2056 <= m || (from / 119 <= m && m <= (from + 256) / 119)
 }
 
+// The first element of client block b's FEC block.
+fn first_element(b: usize) -> usize
+    requires { ⌜ b < 38080 ⌝ }
+    ensures { λ r. ⌜ r ≡ firstElement b ⌝ }
+{
+    10976 * (b / 952 / 5) + 2194 * (b / 952 % 5)
+}
+
 // Whether word w of n super frames is listed.
 fn is_listed(n: usize, b: usize, w: usize) -> bool
+    requires { ⌜ b < 38080 ⌝ }
     ensures { λ r. ⌜ r ≡ listed n b w ⌝ }
 {
     if !line::holds_element(n, w) {
         return false;
     }
     let e = line::element_in(w);
-    let l = e % 10976;
-    if 10970 <= l {
+    let first = first_element(b);
+    if e < first {
         return false;
     }
-    if 5 * (e / 10976) + l / 2194 != b / 952 {
+    if first + 2194 <= e {
         return false;
     }
-    holds_touched(b, l % 2194)
+    holds_touched(b, e - first)
+}
+
+// No word before this one is listed: an element does not leave before its own number.
+fn stretch_from(b: usize) -> usize
+    requires { ⌜ b < 38080 ⌝ }
+    ensures { λ r. ⌜ r ≡ stretchFrom b ⌝ }
+{
+    first_element(b) + 257 * (b % 952) / 119
+}
+
+// Nor one from here on: none waits longer than 480 words.
+fn stretch_to(b: usize) -> usize
+    requires { ⌜ b < 38080 ⌝ }
+    ensures { λ r. ⌜ r ≡ stretchTo b ⌝ }
+{
+    first_element(b) + 2674
 }
 
 // ---- number 9
@@ -122,7 +147,7 @@ fn fails_check(t: &[u16; 4096], v: [u8; 16]) -> bool
 
 // Whether word w is to be listed and fails a check.
 fn is_refused(n: usize, b: usize, capture: &[u8], t: &[u16; 4096], w: usize) -> bool
-    requires { ⌜ now t ≡ byteTable ⌝ }
+    requires { ⌜ (now t ≡ byteTable) × (b < 38080) ⌝ }
     ensures { λ r. ⌜ r ≡ fails n b (now (capture .entry)) w ⌝ }
 {
     if !is_listed(n, b, w) {
@@ -133,10 +158,10 @@ fn is_refused(n: usize, b: usize, capture: &[u8], t: &[u16; 4096], w: usize) -> 
 
 // The first such word, or the number of words.
 fn first_refused(n: usize, b: usize, capture: &[u8], t: &[u16; 4096]) -> usize
-    requires { ⌜ (n ≤ 8) × (now t ≡ byteTable) ⌝ }
+    requires { ⌜ (n ≤ 8) × (b < blocksOf n) × (now t ≡ byteTable) ⌝ }
     ensures { λ r. ⌜ r ≡ first (fails n b (now (capture .entry))) (words n) ⌝ }
 {
-    for w in 0..10976 * n + 480 {
+    for w in stretch_from(b)..stretch_to(b) {
         if is_refused(n, b, capture, t, w) {
             return w;
         }
@@ -169,80 +194,37 @@ fn word_bit(capture: &[u8], w: usize, j: usize) -> u8
     bits::bit_at(capture, 8 * place(w, j / 8) + j % 8)
 }
 
-// The slot of element e.
-fn slot(e: usize) -> usize
-    requires { ⌜ e < 90000 ⌝ }
-    ensures { λ r. ⌜ r ≡ slotOf e ⌝ }
-{
-    e + 32 * (15 - e % 16)
-}
-
 // Bit i of FEC block t of a capture, descrambled.
 fn received_bit(capture: &[u8], scr: &[u8; 163268], t: usize, i: usize) -> u8
     requires { ⌜ (now scr ≡ pack frameBytes o) × (t < 40) × (i < fecBits) ⌝ }
     ensures { λ r. ⌜ r ≡ fecIn (wordIn (now (capture .entry))) t i ⌝ }
 {
     let k = 261086 * (t % 5) + i;
-    let w = slot(10976 * (t / 5) + k / 119);
+    let w = line::slot((10976 * (t / 5) + k / 119) as u32);
     add(word_bit(capture, w, k % 119), bits::bit_at(scr, k))
 }
 
-// Bit i of the change of client block b's FEC block: outside the block nothing changes.
-fn changed_bit(b: usize, bits: &[u8], capture: &[u8], scr: &[u8; 163268], i: usize) -> u8
-    requires { ⌜ (now scr ≡ pack frameBytes o) × (b < 38080) × (i < infoBits) ⌝ }
-    ensures { λ r. ⌜ r ≡ change b (now (bits .entry)) (fecIn (wordIn (now (capture .entry))) (fecOf b)) i ⌝ }
+// Bit j of client block b's change: what was received, and what replaces it.
+fn changed_bit(b: usize, bits: &[u8], capture: &[u8], scr: &[u8; 163268], j: usize) -> u8
+    requires { ⌜ (now scr ≡ pack frameBytes o) × (b < 38080) × (j < blockBits) ⌝ }
+    ensures { λ r. ⌜ r ≡ change b (now (bits .entry)) (fecIn (wordIn (now (capture .entry))) (fecOf b)) (blockFrom b + j) ⌝ }
 {
-    let from = 257 * (b % 952);
-    if i < from {
-        return 0;
-    }
-    if from + 257 <= i {
-        return 0;
-    }
     add(
-        received_bit(capture, scr, b / 952, i),
-        bits::bit_at(bits, i - from),
+        received_bit(capture, scr, b / 952, 257 * (b % 952) + j),
+        bits::bit_at(bits, j),
     )
 }
 
-// Byte k of it: only some 33 bytes are looked at bit by bit.
-fn changed_byte(b: usize, bits: &[u8], capture: &[u8], scr: &[u8; 163268], k: usize) -> u8
-    requires { ⌜ (now scr ≡ pack frameBytes o) × (b < 38080) × (k < infoBytes) ⌝ }
-    ensures { λ r. ⌜ r ≡ byteOf (change b (now (bits .entry)) (fecIn (wordIn (now (capture .entry))) (fecOf b))) k ⌝ }
-{
-    let from = 257 * (b % 952);
-    if 8 * k + 8 <= from {
-        return 0;
-    }
-    if from + 257 <= 8 * k {
-        return 0;
-    }
-    let mut acc: u32 = 0;
-    for j in 0..8usize {
-        acc = acc * 2 + bits::wide(changed_bit(b, bits, capture, scr, 8 * k + j));
-    }
-    acc as u8
-}
-
-// All of them, at their places in the information.
-fn changed(b: usize, bits: &[u8], capture: &[u8], scr: &[u8; 163268], out: &mut [u8])
-    requires { ⌜ (now scr ≡ pack frameBytes o) × (b < 38080) × (length (now out) ≤ infoBytes) ⌝ }
-    ensures { λ _. ⌜ now (out .exit) ≡ pack (length (now (out .entry))) (change b (now (bits .entry)) (fecIn (wordIn (now (capture .entry))) (fecOf b))) ⌝ }
-{
-    for k in 0..out.len() {
-        out[k] = changed_byte(b, bits, capture, scr, k);
-    }
-}
-
-// What they leave: the change of the CRC.
+// What the changed bits leave: the change of the CRC. Before the block nothing changes, and what follows it only shifts.
 fn crc_change(b: usize, bits: &[u8], capture: &[u8], scr: &[u8; 163268]) -> u32
     requires { ⌜ (now scr ≡ pack frameBytes o) × (b < 38080) ⌝ }
     ensures { λ r. ⌜ r ≡ crcChange b (now (bits .entry)) (fecIn (wordIn (now (capture .entry))) (fecOf b)) ⌝ }
 {
-    let mut out = [0u8; 30583];
-    changed(b, bits, capture, scr, &mut out);
-    let t = crc::table();
-    crc::remainder(&t, 0, &out)
+    let mut r: u32 = 0;
+    for j in 0..257 {
+        r = crc::take(r, changed_bit(b, bits, capture, scr, j));
+    }
+    crc::shifted(r, (244407 - 257 * (b % 952)) as u64)
 }
 
 // ---- a word made anew
@@ -415,7 +397,7 @@ fn turn(
     capture: &mut [u8],
     list: &mut [u64],
 ) -> usize
-    requires { ⌜ (Lent (now scr) (now t) (now tails)) × (n ≤ 8) × (w < words n) × (length (now capture) ≡ captureLength n) × (c < length (now list)) ⌝ }
+    requires { ⌜ (Lent (now scr) (now t) (now tails)) × (n ≤ 8) × (w < words n) × (length (now capture) ≡ captureLength n) × (c < length (now list)) × (b < 38080) ⌝ }
     ensures { λ r. ⌜ Turned n b (now (bits .entry)) (now (parity .entry)) crc w c (now (capture .entry)) (now (list .entry)) (now (capture .exit)) (now (list .exit)) r ⌝ }
 {
     if is_listed(n, b, w) {
@@ -428,7 +410,7 @@ fn turn(
     c
 }
 
-// All words in their order.
+// The words that can be listed, in their order.
 fn rewrite(
     n: usize,
     b: usize,
@@ -441,11 +423,11 @@ fn rewrite(
     capture: &mut [u8],
     list: &mut [u64],
 ) -> usize
-    requires { ⌜ (Lent (now scr) (now t) (now tails)) × (n ≤ 8) × (crc ≡ crcChange b (now bits) (fecIn (wordIn (now capture)) (fecOf b))) × (length (now capture) ≡ captureLength n) × (length (now list) ≡ listLength) ⌝ }
+    requires { ⌜ (Lent (now scr) (now t) (now tails)) × (n ≤ 8) × (b < blocksOf n) × (crc ≡ crcChange b (now bits) (fecIn (wordIn (now capture)) (fecOf b))) × (length (now capture) ≡ captureLength n) × (length (now list) ≡ listLength) ⌝ }
     ensures { λ r. ⌜ Passing n b (now (bits .entry)) (now (parity .entry)) (now (capture .entry)) (now (list .entry)) (words n) (now (capture .exit)) (now (list .exit)) r ⌝ }
 {
     let mut c: usize = 0;
-    for w in 0..10976 * n + 480 {
+    for w in stretch_from(b)..stretch_to(b) {
         c = turn(n, b, bits, parity, scr, t, tails, crc, w, c, capture, list);
     }
     c

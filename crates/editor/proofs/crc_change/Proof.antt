@@ -1,48 +1,91 @@
--- `editor::crc_change` meets its contract. Assumes nothing.
-use mathlib.Core.Path.{_∙_}
+-- `editor::crc_change` meets its contract: a bit a turn, and then the zeros at once. Assumes nothing.
+use Prim.Native.Nat.{ℕ, _+_, _-_, _*_, _%_, _≤_, _<_}
+use mathlib.Core.List.{List}
+use mathlib.Core.Path.{_≡_, refl, sym, ap, _∙_}
+use native.Mathlib.Nat.{mod-eq-of-lt}
 use native.Mathlib.Omega.{arith}
 use denote.Ref.{now}
+use Rattle.crc.specs.Crc.{step, remFrom, remOf, shiftN}
+use Rattle.crc.proofs.Linear.{rem-more}
 use Rattle.line.specs.Words.{wordIn, fecIn}
-use Rattle.editor.specs.Edit.{fecOf}
-use Rattle.editor.proofs.Changing.{crc-changes}
+use Rattle.editor.specs.Edit.{fecOf, blockFrom, change}
+use Rattle.editor.proofs.Changing.{change-bits, crc-changes}
 use borrow.Author.Needs.{needs}
 use Rattle.editor.proofs.crc_change.Statement.{statement}
 use Rattle.editor.proofs.crc_change.Tie as tie
 use Rattle.editor.proofs.crc_change.Reads as reads
 use Rattle.editor.proofs.crc_change.Lts as lts
-use Rattle.crc.proofs.remainder.Reads as remainder-reads
-use Rattle.crc.proofs.table.Reads as table-reads
-use Rattle.editor.proofs.changed.Reads as changed-reads
+use Rattle.crc.proofs.shifted.Reads as shifted-reads
+use Rattle.crc.proofs.take.Reads as take-reads
+use Rattle.editor.proofs.changed_bit.Reads as changed-bit-reads
 
-slice-aggregate-changed : tie.Need-slice-aggregate-changed
-slice-aggregate-changed c = search needs
+-- the changed bits of the block, the first of them bit 0
+abbrev turned : ℕ → List ℕ → List ℕ → ℕ → ℕ
+turned b bits capture i = change b bits (fecIn (wordIn capture) (fecOf b)) (blockFrom b + i)
 
-changed-requires : tie.Need-changed-requires
-changed-requires c κs = search needs
+abbrev Inv-loop : tie.InvT-loop
+Inv-loop b bits capture scr r₀ j₀ r j = (j ≤ 257) × (r ≡ remOf (turned b bits capture) j)
 
-table-requires : tie.Need-table-requires
-table-requires c κs = search needs
+abbrev μ-loop : tie.MeasureT-loop
+μ-loop b bits capture scr r₀ j₀ r j = 257 - j
 
-slice-aggregate-remainder : tie.Need-slice-aggregate-remainder
-slice-aggregate-remainder c = search needs
+loop-holds : tie.Need-loop-holds Inv-loop μ-loop
+unfolding remFrom
+loop-holds c = (omega arith, refl)
 
-remainder-requires : tie.Need-remainder-requires
-remainder-requires c κs = search needs
+changed-bit-requires : tie.Need-changed-bit-requires Inv-loop μ-loop
+changed-bit-requires c κs = search needs
 
-returns : tie.Need-returns
+take-requires : tie.Need-take-requires Inv-loop μ-loop
+take-requires c κs = search needs
+
+add-j : tie.Need-add-j Inv-loop μ-loop
+add-j c = search needs
+
+loop-less : tie.Need-loop-less Inv-loop μ-loop
+loop-less c = search needs
+
+loop-again : tie.Need-loop-again Inv-loop μ-loop
+loop-again c =
+    let h = c .before .before .before .loop in
+    let a = c .before .before .before .before .before .before .args in
+    let x = c .before .changed-bit in
+    let small : x .result < 2 = rw (x .ensures) (change-bits (a .b) (now (a .bits)) (fecIn (wordIn (now (a .capture))) (fecOf (a .b))) (blockFrom (a .b) + h .j)) in (
+      omega arith,
+      rem-more (turned (a .b) (now (a .bits)) (now (a .capture))) (h .j) (h .inv .1) (x .ensures) (c .take .ensures ∙ ap (step (h .r)) (mod-eq-of-lt small)),
+    )
+
+mul-shifted : tie.Need-mul-shifted Inv-loop μ-loop
+mul-shifted c = search needs
+
+sub-shifted : tie.Need-sub-shifted Inv-loop μ-loop
+sub-shifted c = search needs
+
+shifted-requires : tie.Need-shifted-requires Inv-loop μ-loop
+shifted-requires c κs = search needs
+
+returns : tie.Need-returns Inv-loop μ-loop
 returns c =
-    let t = c .before .before .before in
-    let a = t .before .before .before .before .before .before .args in
-    c .remainder .ensures
-    ∙ crc-changes _ _ _ (a .b) (now (a .bits)) (fecIn (wordIn (now (a .capture))) (fecOf (a .b))) (t .table .ensures) (t .before .before .changed .ensures) (omega arith)
+    let h = c .before .before .loop in
+    let a = c .before .before .before .before .before .args in
+    let e : h .j ≡ 257 = omega (arith, h .inv .0, c .before .loop-test .left) in
+    c .shifted .ensures
+    ∙ ap (shiftN (244407 - 257 * (a .b % 952))) (h .inv .1 ∙ ap (remOf (turned (a .b) (now (a .bits)) (now (a .capture)))) e)
+    ∙ crc-changes (a .b) (now (a .bits)) (fecIn (wordIn (now (a .capture))) (fecOf (a .b))) (244407 - 257 * (a .b % 952)) (omega arith)
 
 pub crc-change-spec : {M : Type 1} → statement M
 crc-change-spec =
     tie.close
     (tie.spec
-    slice-aggregate-changed
-    changed-requires
-    table-requires
-    slice-aggregate-remainder
-    remainder-requires
+    Inv-loop
+    μ-loop
+    loop-holds
+    changed-bit-requires
+    take-requires
+    add-j
+    loop-less
+    loop-again
+    mul-shifted
+    sub-shifted
+    shifted-requires
     returns)

@@ -1,13 +1,15 @@
 -- `editor::is_listed` meets its contract. Assumes nothing.
+use Prim.Native.Nat.{_-_}
 use mathlib.Core.Path.{sym, _∙_}
+use native.Mathlib.Omega.{arith}
 use borrow.Author.Tests.{not-true, not-false}
-use Rattle.editor.specs.Edit.{elementFec, elementLocal}
-use Rattle.editor.proofs.Listing.{listed-empty, listed-pad, listed-elsewhere, listed-touches}
+use Rattle.editor.proofs.Listing.{listed-empty, listed-elsewhere, listed-touches}
 use borrow.Author.Needs.{needs}
 use Rattle.editor.proofs.is_listed.Statement.{statement}
 use Rattle.editor.proofs.is_listed.Tie as tie
 use Rattle.editor.proofs.is_listed.Reads as reads
 use Rattle.editor.proofs.is_listed.Lts as lts
+use Rattle.editor.proofs.first_element.Reads as first-element-reads
 use Rattle.editor.proofs.holds_touched.Reads as holds-touched-reads
 use Rattle.line.proofs.element_in.Reads as element-in-reads
 use Rattle.line.proofs.holds_element.Reads as holds-element-reads
@@ -23,39 +25,35 @@ returns c =
 element-in-requires : tie.Need-element-in-requires
 element-in-requires c κs = search needs
 
+first-element-requires : tie.Need-first-element-requires
+first-element-requires c κs = search needs
+
 returns-2 : tie.Need-returns-2
 returns-2 c =
-    let h = c .before .before .before in
-    let a = h .before .args in
-    listed-pad (a .n) (a .b) (a .w) (sym (h .holds-element .ensures) ∙ not-false (h .holds-element .result) (c .before .before .if1 .left)) (rw (c .before .element-in .ensures) at (c .if2 .taken))
-
-mul-if3 : tie.Need-mul-if3
-mul-if3 c = search needs
+    let a = c .before .before .before .before .before .args in
+    listed-elsewhere (a .n) (a .b) (a .w) (λ m l q. omega (arith, q, c .before .before .element-in .ensures, c .before .first-element .ensures, c .if2 .taken))
 
 add-if3 : tie.Need-add-if3
 add-if3 c = search needs
 
 returns-3 : tie.Need-returns-3
-unfolding elementFec
 returns-3 c =
-    let e = c .before .before in
-    let h = e .before .before in
-    let a = h .before .args in
-    listed-elsewhere (a .n) (a .b) (a .w) (sym (h .holds-element .ensures) ∙ not-false (h .holds-element .result) (e .before .if1 .left))
-    (rw (e .element-in .ensures) at (c .before .if2 .left)) (rw (e .element-in .ensures) at (c .if3 .taken))
+    let f = c .before .before in
+    let a = f .before .before .before .before .args in
+    listed-elsewhere (a .n) (a .b) (a .w) (λ m l q. omega (arith, q, f .before .element-in .ensures, f .first-element .ensures, c .if3 .taken))
 
 holds-touched-requires : tie.Need-holds-touched-requires
 holds-touched-requires c κs = search needs
 
 returns-4 : tie.Need-returns-4
-unfolding elementFec elementLocal
 returns-4 c =
-    let e = c .before .before .before in
-    let h = e .before .before in
+    let f = c .before .before .before in
+    let h = f .before .before .before in
     let a = h .before .args in
-    (rw (e .element-in .ensures) at (c .holds-touched .ensures))
-    ∙ listed-touches (a .n) (a .b) (a .w) (sym (h .holds-element .ensures) ∙ not-false (h .holds-element .result) (e .before .if1 .left))
-    (rw (e .element-in .ensures) at (c .before .before .if2 .left)) (rw (e .element-in .ensures) at (c .before .if3 .left))
+    c .holds-touched .ensures
+    ∙ listed-touches (a .n) (a .b) (a .w) (f .before .element-in .result - f .first-element .result)
+    (sym (h .holds-element .ensures) ∙ not-false (h .holds-element .result) (f .before .before .if1 .left))
+    (omega arith) (omega (arith, f .before .element-in .ensures, f .first-element .ensures, c .before .before .if2 .left))
 
 pub is-listed-spec : {M : Type 1} → statement M
 is-listed-spec =
@@ -64,8 +62,8 @@ is-listed-spec =
     holds-element-requires
     returns
     element-in-requires
+    first-element-requires
     returns-2
-    mul-if3
     add-if3
     returns-3
     holds-touched-requires

@@ -14,7 +14,7 @@ use Rattle.editor.proofs.received_bit.Reads as reads
 use Rattle.editor.proofs.received_bit.Lts as lts
 use Rattle.bits.proofs.bit_at.Reads as bit-at-reads
 use Rattle.editor.proofs.add.Reads as add-reads
-use Rattle.editor.proofs.slot.Reads as slot-reads
+use Rattle.line.proofs.slot.Reads as slot-reads
 use Rattle.editor.proofs.word_bit.Reads as word-bit-reads
 
 mul-k : tie.Need-mul-k
@@ -28,6 +28,9 @@ mul-slot c = search needs
 
 add-slot : tie.Need-add-slot
 add-slot c = search needs
+
+cast-slot : tie.Need-cast-slot
+cast-slot c = search needs
 
 slot-requires : tie.Need-slot-requires
 slot-requires c κs = search needs
@@ -64,6 +67,7 @@ received-bit-spec =
     add-k
     mul-slot
     add-slot
+    cast-slot
     slot-requires
     word-bit-requires
     bit-at-requires

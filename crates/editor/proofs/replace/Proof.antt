@@ -29,6 +29,7 @@ rewrite-requires c κs =
     let s = t .before .before .before .before .before .before .before .before in (
       record { sequence = search needs; checks = s .pre .0; closing = t .tail-table .ensures },
       s .pre .1 .few,
+      s .pre .1 .block,
       k .crc-change .ensures,
       s .pre .1 .capture-long,
       s .pre .1 .list-long,
