@@ -63,12 +63,6 @@ holding-listed N b w h =
       touches-at b (elementBits * elementLocal e) elementBits (h .touch .bit) (h .touch .within) (h .touch .there),
     )
 
--- how code tests it: one test after the other
-pub listed-empty : (N b w : ℕ) → holds N w ≡ false → false ≡ listed N b w
-unfolding listed
-listed-empty N b w h = rw h
-
--- by the first element of the FEC block
 -- number 9
 pub fails-unlisted : (N b : ℕ) (cap : List ℕ) (w : ℕ) → listed N b w ≡ false → false ≡ fails N b cap w
 unfolding fails
@@ -177,20 +171,37 @@ own-fec b m h = (
   at-local (fecOf b / fecBlocks) (fecOf b % fecBlocks) m (omega arith) h,
 )
 
--- an element of another FEC block, or of the pad
-pub listed-elsewhere : (N b w : ℕ) → ((m : ℕ) → m < fecElements → elementIn w ≡ firstElement b + m → ⊥) → false ≡ listed N b w
+pub own-in : (N b m : ℕ) → b < blocksOf N → m < fecElements → firstElement b + m < superElements * N
+own-in N b m h l = omega arith
+
+-- how code sees the element of a word: with 480 more, it is the word and 32 times its row
+pub row-element : (w e : ℕ) → w + 32 * (w % 16) ≡ e + 480 → (delay w ≤ w) × (elementIn w ≡ e)
+unfolding delay elementIn
+row-element w e h = (omega arith, omega arith)
+
+pub row-of : (w e : ℕ) → slotOf e ≡ w → w + 32 * (w % 16) ≡ e + 480
+unfolding slotOf delay
+row-of w e h = omega arith
+
+-- one of another FEC block, of the pad, or filler
+pub listed-elsewhere : (N b w : ℕ) → ((m : ℕ) → m < fecElements → w + 32 * (w % 16) ≡ firstElement b + m + 480 → ⊥) → false ≡ listed N b w
 listed-elsewhere N b w n = by (listed N b w) refl
   where
     by : (t : Bool) → listed N b w ≡ t → false ≡ listed N b w
-    by true h = let l = listed-holding N b w h in absurd (n (elementLocal (elementIn w)) (local-lt (elementIn w)) (element-is b (elementIn w) (l .no-pad) (l .block)))
+    by true h =
+        let l = listed-holding N b w h in
+        let e = elementIn w in
+        absurd (n (elementLocal e) (local-lt e) (row-of w e (held N w (l .element) .back) ∙ ap (λ (x : ℕ). x + 480) (element-is b e (l .no-pad) (l .block))))
     by false h = sym h
 
 -- one of the client block's FEC block
-pub listed-touches : (N b w m : ℕ) → holds N w ≡ true → m < fecElements → elementIn w ≡ firstElement b + m → touches b (elementBits * m) elementBits ≡ listed N b w
-unfolding listed
-listed-touches N b w m h l e =
+pub listed-touches : (N b w m : ℕ) → b < blocksOf N → m < fecElements → w + 32 * (w % 16) ≡ firstElement b + m + 480 → touches b (elementBits * m) elementBits ≡ listed N b w
+unfolding listed holds
+listed-touches N b w m h l q =
+    let r = row-element w (firstElement b + m) q in
+    let e = r .1 in
     let f = own-fec b m l in
-    rw (h, e, no-pad-test (firstElement b + m) (own-element b m l), f .1, eq-eqb (elementFec (firstElement b + m)) (fecOf b) (f .0))
+    rw (le-leb (delay w) w (r .0), e, lt-ltb (firstElement b + m) (superElements * N) (own-in N b m h l), no-pad-test (firstElement b + m) (own-element b m l), f .1, eq-eqb (elementFec (firstElement b + m)) (fecOf b) (f .0))
 
 -- ---- the stretch of words that can be listed
 

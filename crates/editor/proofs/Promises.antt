@@ -20,7 +20,7 @@ use Rattle.editor.specs.Edit.{blocksOf, fecOf, blockFrom, editedFec, ele
 use Rattle.editor.specs.Parts.{firstElement}
 use Rattle.editor.proofs.Touching.{element-tail, element-block, touches-some}
 use Rattle.editor.proofs.Picking.{length-picked, picked-entry, picked-rises, picked-room, picked-has, count-few, count-many}
-use Rattle.editor.proofs.Listing.{own, own-element, own-fec, own-tail, own-block, slotNo, listedCount, listed-slot, listed-count-ge, listed-count-le, holding-listed}
+use Rattle.editor.proofs.Listing.{own, own-in, own-element, own-fec, own-tail, own-block, slotNo, listedCount, listed-slot, listed-count-ge, listed-count-le, holding-listed}
 use Rattle.editor.proofs.Passes.{edited-long, edited-kept}
 
 -- ---- the numbers handed back
@@ -78,15 +78,12 @@ own-differ b i j h l q =
     omega (arith, p, r)))
 
 module _ (N b : ℕ) (within : b < blocksOf N) where
-  own-in : (m : ℕ) → m < fecElements → firstElement b + m < superElements * N
-  own-in m h = omega arith
-
   slot-listed : (k : ℕ) → k < listedCount b → (slotNo b k < words N) × (listed N b (slotNo b k) ≡ true)
   unfolding slotNo
   slot-listed k h =
       let m = own-lt b k h in
       let e = firstElement b + own b k in
-      let x = own-in (own b k) m in
+      let x = own-in N b (own b k) within m in
       let y = own-fec b (own b k) m in
       let t : touches b (elementBits * elementLocal (elementIn (slotOf e))) elementBits ≡ true = rw (element-slot e, y .1) (own-touched b k h) in (
         slot-lt N e (x),

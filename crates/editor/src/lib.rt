@@ -100,23 +100,20 @@ fn first_element(b: usize) -> usize
     10976 * (b / 952 / 5) + 2194 * (b / 952 % 5)
 }
 
-// Whether word w of n super frames is listed.
+// Whether word w of n super frames is listed. Its element and 480 more is w and 32 times its row: filler stays below 480.
 fn is_listed(n: usize, b: usize, w: usize) -> bool
-    requires { ⌜ b < 38080 ⌝ }
+    requires { ⌜ (b < blocksOf n) × (n ≤ 8) × (w < words n) ⌝ }
     ensures { λ r. ⌜ r ≡ listed n b w ⌝ }
 {
-    if !line::holds_element(n, w) {
+    let x = w + 32 * (w % 16);
+    let first = first_element(b) + 480;
+    if x < first {
         return false;
     }
-    let e = line::element_in(w);
-    let first = first_element(b);
-    if e < first {
+    if first + 2194 <= x {
         return false;
     }
-    if first + 2194 <= e {
-        return false;
-    }
-    holds_touched(b, e - first)
+    holds_touched(b, x - first)
 }
 
 // No word before this one is listed: an element does not leave before its own number.
@@ -147,7 +144,7 @@ fn fails_check(t: &[u16; 4096], v: [u8; 16]) -> bool
 
 // Whether word w is to be listed and fails a check.
 fn is_refused(n: usize, b: usize, capture: &[u8], t: &[u16; 4096], w: usize) -> bool
-    requires { ⌜ (now t ≡ byteTable) × (b < 38080) ⌝ }
+    requires { ⌜ (now t ≡ byteTable) × (b < blocksOf n) × (n ≤ 8) × (w < words n) ⌝ }
     ensures { λ r. ⌜ r ≡ fails n b (now (capture .entry)) w ⌝ }
 {
     if !is_listed(n, b, w) {
@@ -397,7 +394,7 @@ fn turn(
     capture: &mut [u8],
     list: &mut [u64],
 ) -> usize
-    requires { ⌜ (Lent (now scr) (now t) (now tails)) × (n ≤ 8) × (w < words n) × (length (now capture) ≡ captureLength n) × (c < length (now list)) × (b < 38080) ⌝ }
+    requires { ⌜ (Lent (now scr) (now t) (now tails)) × (n ≤ 8) × (w < words n) × (length (now capture) ≡ captureLength n) × (c < length (now list)) × (b < blocksOf n) ⌝ }
     ensures { λ r. ⌜ Turned n b (now (bits .entry)) (now (parity .entry)) crc w c (now (capture .entry)) (now (list .entry)) (now (capture .exit)) (now (list .exit)) r ⌝ }
 {
     if is_listed(n, b, w) {

@@ -43,7 +43,9 @@ loop-holds c =
 
 is-refused-requires : tie.Need-is-refused-requires Inv-loop μ-loop
 is-refused-requires c κs =
-    let s = c .before .before .before .before .before in (s .pre .2, omega arith)
+    let h = c .before .before in
+    let s = h .before .before .before in
+    (s .pre .2, s .pre .1, s .pre .0, omega (arith, c .loop-test .taken, h .stretch-to .ensures, stretch-in (s .args .n) (s .args .b) (s .pre .1)))
 
 returns : tie.Need-returns Inv-loop μ-loop
 returns c =

@@ -53,7 +53,7 @@ turn-requires c κs =
         passing-few (a .n) (a .b) (now (a .bits)) (now (a .parity)) (now (a .capture)) (now (a .list)) p,
         passing-entries (a .n) (a .b) (now (a .bits)) (now (a .parity)) (now (a .capture)) (now (a .list)) p (s .pre .5),
       ),
-      omega (arith, s .pre .1, s .pre .2),
+      s .pre .2,
     )
 
 add-w : tie.Need-add-w Inv-loop μ-loop
