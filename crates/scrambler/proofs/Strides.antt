@@ -13,12 +13,8 @@ use Rattle.bits.proofs.Numbers.{num-ext}
 use Rattle.bits.proofs.Packing.{length-packs}
 use Rattle.bits.proofs.Xor.{num-xor}
 use Rattle.scrambler.specs.Scrambler.{o}
-use Rattle.scrambler.specs.Register.{Opened, opening, Begun}
+use Rattle.scrambler.specs.Register.{Rule, Opened, Begun}
 use Rattle.scrambler.proofs.Rule.{o-lt, o-step}
-
--- the rule at stride m
-abbrev Rule : ℕ → Type 0
-Rule m = (n : ℕ) → o (n + 16 * m) ≡ (o (n + 15 * m) + o (n + 13 * m) + o (n + 4 * m) + o n) % 2
 
 -- terms that come twice; and a sum of sums, each without its carry
 even : (x y z : ℕ) → x ≡ y + 2 * z → x % 2 ≡ y % 2
@@ -46,8 +42,18 @@ twice m r n =
     top ∙ (rw (a, b, c, r n)
     (cancel (o (n + 15 * (2 * m))) (o (n + 28 * m)) (o (n + 19 * m)) (o (n + 15 * m)) (o (n + 13 * (2 * m))) (o (n + 17 * m)) (o (n + 13 * m)) (o (n + 4 * (2 * m))) (o (n + 4 * m)) (o n)))
 
-stride : Rule 128
-stride = twice 64 (twice 32 (twice 16 (twice 8 (twice 4 (twice 2 (twice 1 (λ n. o-step n)))))))
+-- at strides of 1, 4, 16 and 64 bytes
+pub stride-1 : Rule 8
+stride-1 = twice 4 (twice 2 (twice 1 (λ n. o-step n)))
+
+pub stride-4 : Rule 32
+stride-4 = twice 16 (twice 8 stride-1)
+
+pub stride-16 : Rule 128
+stride-16 = twice 64 (twice 32 stride-4)
+
+pub stride-64 : Rule 512
+stride-64 = twice 256 (twice 128 stride-16)
 
 -- byte k, from bit 0 of the sequence that begins there
 abbrev since : ℕ → ℕ → ℕ
@@ -66,19 +72,20 @@ four : (a b c d : ℕ) → (((a + b) % 2 + c) % 2 + d) % 2 ≡ (a + b + c + d) %
 four a b c d = omega arith
 
 -- a byte is the sum of four before it
-pub byte-sum : (k : ℕ) → 256 ≤ k → bitXor (bitXor (bitXor (byteOf o (k - 16)) (byteOf o (k - 48))) (byteOf o (k - 192))) (byteOf o (k - 256)) ≡ byteOf o k
-byte-sum k h =
-    let s = since (k - 16) in
-    let t = since (k - 48) in
-    let u = since (k - 192) in
-    let v = since (k - 256) in
-    rw (since-byte (k - 16), since-byte (k - 48), since-byte (k - 192), since-byte (k - 256))
-    (ap (λ (x : ℕ). bitXor (bitXor x (num 8 u 0)) (num 8 v 0)) (num-xor 8 s t 0 (since-lt (k - 16)) (since-lt (k - 48)))
-    ∙ ap (λ (x : ℕ). bitXor x (num 8 v 0)) (num-xor 8 (added s t) u 0 (added-lt s t) (since-lt (k - 192)))
-    ∙ num-xor 8 (added (added s t) u) v 0 (added-lt (added s t) u) (since-lt (k - 256))
-    ∙ num-ext 8 (added (added (added s t) u) v) o 0 (8 * k)
-    (λ j l. four (s (0 + j)) (t (0 + j)) (u (0 + j)) (v (0 + j))
-    ∙ sym (shifted 128 stride (8 * k + j) (8 * (k - 16) + (0 + j)) (8 * (k - 48) + (0 + j)) (8 * (k - 192) + (0 + j)) (8 * (k - 256) + (0 + j)) (omega arith) (omega arith) (omega arith) (omega arith))))
+pub byte-sum : (s k : ℕ) → Rule (8 * s) → 16 * s ≤ k
+    → bitXor (bitXor (bitXor (byteOf o (k - s)) (byteOf o (k - 3 * s))) (byteOf o (k - 12 * s))) (byteOf o (k - 16 * s)) ≡ byteOf o k
+byte-sum s k r h =
+    let a = since (k - s) in
+    let b = since (k - 3 * s) in
+    let c = since (k - 12 * s) in
+    let d = since (k - 16 * s) in
+    rw (since-byte (k - s), since-byte (k - 3 * s), since-byte (k - 12 * s), since-byte (k - 16 * s))
+    (ap (λ (x : ℕ). bitXor (bitXor x (num 8 c 0)) (num 8 d 0)) (num-xor 8 a b 0 (since-lt (k - s)) (since-lt (k - 3 * s)))
+    ∙ ap (λ (x : ℕ). bitXor x (num 8 d 0)) (num-xor 8 (added a b) c 0 (added-lt a b) (since-lt (k - 12 * s)))
+    ∙ num-xor 8 (added (added a b) c) d 0 (added-lt (added a b) c) (since-lt (k - 16 * s))
+    ∙ num-ext 8 (added (added (added a b) c) d) o 0 (8 * k)
+    (λ j l. four (a (0 + j)) (b (0 + j)) (c (0 + j)) (d (0 + j))
+    ∙ sym (shifted (8 * s) r (8 * k + j) (8 * (k - s) + (0 + j)) (8 * (k - 3 * s) + (0 + j)) (8 * (k - 12 * s) + (0 + j)) (8 * (k - 16 * s) + (0 + j)) (omega arith) (omega arith) (omega arith) (omega arith))))
 
 -- ---- a buffer that is begun
 
@@ -86,8 +93,11 @@ byte-sum k h =
 pub opened-all : {d out : List ℕ} (n : ℕ) → Opened n d out → n ≡ length d → out ≡ pack (length d) o
 opened-all {d} {out} n e p = rw (e .is, drop-of-length-le d (le-of-eq (sym p)), p) (append-nil (pack (length d) o))
 
--- far enough
-pub opened-begun : {d out : List ℕ} → Opened opening d out → opening ≤ length d → Begun out
-opened-begun {d} {out} e h =
-    let rest : drop opening out ≡ drop opening d = rw (e .is) (drop-at (pack opening o) (drop opening d) opening (length-packs 8 opening o)) in
-    record { within = rw (e .long) h; is = e .is ∙ ap (λ (s : List ℕ). pack opening o ++ s) (sym rest) }
+pub begun-all : {out : List ℕ} (n : ℕ) → Begun n out → length out ≡ n → out ≡ pack n o
+begun-all {out} n b e = b .is ∙ (rw (drop-of-length-le out (le-of-eq e)) (append-nil (pack n o)))
+
+-- so far
+pub opened-begun : {m : ℕ} {d out : List ℕ} → Opened m d out → m ≤ length d → Begun m out
+opened-begun {m} {d} {out} e h =
+    let rest : drop m out ≡ drop m d = rw (e .is) (drop-at (pack m o) (drop m d) m (length-packs 8 m o)) in
+    record { within = rw (e .long) h; is = e .is ∙ ap (λ (s : List ℕ). pack m o ++ s) (sym rest) }

@@ -1,10 +1,10 @@
 // The scrambler's sequence, packed into bytes, first bit on top.
 ghost use mathlib.Core.Path.{_≡_};
-ghost use Prim.Native.Nat.{_≤_, _<_, _^_};
+ghost use Prim.Native.Nat.{_*_, _≤_, _<_, _^_};
 ghost use lib.ListN.{length};
 ghost use Rattle.bits.specs.Bits.{pack};
 ghost use Rattle.scrambler.specs.Scrambler.{o, frameBytes};
-ghost use Rattle.scrambler.specs.Register.{Steps, Opened, Begun};
+ghost use Rattle.scrambler.specs.Register.{Steps, Rule, Opened, Begun};
 
 // The bytes of a super frame.
 pub const FRAME_BYTES: usize = 163268;
@@ -28,10 +28,6 @@ fn next8(s: u32) -> u32
     next(next(next(next(next(next(next(next(s))))))))
 }
 
-// So many bytes come from the register. Each later one is the sum of four before it, for the rule holds at every stride that is a power
-// of two, and at a stride of 128 bits it adds whole bytes.
-const OPENING: usize = 256;
-
 // The first m bytes, from the register.
 fn begin(out: &mut [u8], m: usize)
     requires { ⌜ m ≤ length (now out) ⌝ }
@@ -44,26 +40,30 @@ fn begin(out: &mut [u8], m: usize)
     }
 }
 
-// The bytes from there on.
-fn go_on(out: &mut [u8])
-    requires { ⌜ Begun (now out) ⌝ }
-    ensures { λ _. ⌜ now (out .exit) ≡ pack (length (now (out .entry))) o ⌝ }
+// The bytes 16 s .. m - 1, each the sum of four before it: the rule, taken at a stride of s bytes.
+fn go_on(out: &mut [u8], s: usize, m: usize)
+    requires { ⌜ (1 ≤ s) × (Rule (8 * s)) × (16 * s ≤ m) × (m ≤ length (now out)) × (Begun (16 * s) (now out)) ⌝ }
+    ensures { λ _. ⌜ (Begun m (now (out .exit))) × (length (now (out .exit)) ≡ length (now (out .entry))) ⌝ }
 {
-    for k in OPENING..out.len() {
-        out[k] = out[k - 16] ^ out[k - 48] ^ out[k - 192] ^ out[k - 256];
+    for k in 16 * s..m {
+        out[k] = out[k - s] ^ out[k - 3 * s] ^ out[k - 12 * s] ^ out[k - 16 * s];
     }
 }
 
-// Fills out with the sequence from its start: what is added to the bytes of a super frame.
+// Fills out with the sequence from its start: what is added to the bytes of a super frame. The stride grows with what is there, so that
+// many bytes can be added at once.
 pub fn fill(out: &mut [u8])
     ensures { λ _. ⌜ now (out .exit) ≡ pack (length (now (out .entry))) o ⌝ }
 {
     let n = out.len();
-    if n < OPENING {
+    if n < 1024 {
         begin(out, n);
     } else {
-        begin(out, OPENING);
-        go_on(out);
+        begin(out, 16);
+        go_on(out, 1, 64);
+        go_on(out, 4, 256);
+        go_on(out, 16, 1024);
+        go_on(out, 64, n);
     }
 }
 
