@@ -107,15 +107,3 @@ getD-zeros (suc n) (suc k) = getD-zeros n k
 pub bitOf-zeros : (w n i : ℕ) → bitOf w (replicate n 0) i ≡ 0
 unfolding bitOf digit
 bitOf-zeros w n i = rw (getD-zeros n (i / w), zero-div)
-
--- n elements and one more, cut out of a list: the bits of n elements that begin within the first of them are those of the list
-pub cut-bits : (w n : ℕ) (s t : List ℕ) (i : ℕ) → 0 < w → t ≡ tabulate (suc n) (λ j. getD s (i / w + j) 0) → packs w n (from (bitOf w t) (i % w)) ≡ packs w n (from (bitOf w s) i)
-unfolding bitOf
-cut-bits w n s t i p e =
-    packs-ext w n (from (bitOf w t) (i % w)) (from (bitOf w s) i)
-    (λ j l. let a = i % w + j in
-    let whole : i + j ≡ w * (i / w) + a = rw (← add-assoc, div-add-mod) in
-    let q : (i + j) / w ≡ i / w + a / w = ap (λ (x : ℕ). x / w) whole ∙ mul-add-div p (i / w) a in
-    let r : (i + j) % w ≡ a % w = ap (λ (x : ℕ). x % w) whole ∙ mul-add-mod-self-left w (i / w) a in
-    let room : a < suc n * w = rw (mul-comm (suc n) w) (omega (arith, mod-lt i p, mul-add w n 1)) in
-    rw (e, q, r, getD-tabulate 0 (suc n) (λ k. getD s (i / w + k) 0) (a / w) (div-lt-iff-lt-mul p .1 room)))

@@ -1,8 +1,8 @@
 // Packed bits. Every function takes any slice and any number: past the end there are zeros.
 ghost use mathlib.Core.Path.{_≡_};
-ghost use Prim.Native.Nat.{_+_, _/_, _^_, _≤_, _<_};
+ghost use Prim.Native.Nat.{_+_, _/_, _≤_, _<_};
 ghost use lib.ListN.{length, getD};
-ghost use Rattle.bits.specs.Bits.{tabulate, num, bitAt, pack, from};
+ghost use Rattle.bits.specs.Bits.{num, bitAt, pack, from};
 ghost use Rattle.bits.specs.Posts.{Widened, EightOf};
 
 // Byte k of the bytes s; 0 past the end.
@@ -42,38 +42,45 @@ pub fn byte_from(s: &[u8], i: usize) -> u8
     eight_of(byte_at(s, k), byte_at(s, k + 1), (8 - i % 8) as u32)
 }
 
-// The sixteen bytes of the 128 bits from bit i on, where the slice reaches past them: no byte is tested.
-fn word_inside(s: &[u8], i: usize) -> [u8; 16]
-    requires { ⌜ i / 8 + 16 < length (now s) ⌝ }
-    ensures { λ r. ⌜ r ≡ pack 16 (from (bitAt (now (s .entry))) i) ⌝ }
+// Fills out with the bits from bit i on, where the slice reaches past them: no byte is tested.
+fn copy_inside(s: &[u8], i: usize, out: &mut [u8])
+    requires { ⌜ i / 8 + length (now out) < length (now s) ⌝ }
+    ensures { λ _. ⌜ now (out .exit) ≡ pack (length (now (out .entry))) (from (bitAt (now (s .entry))) i) ⌝ }
 {
     let first = i / 8;
     let down = (8 - i % 8) as u32;
-    let mut r = [0u8; 16];
-    for k in 0..16 {
-        r[k] = eight_of(s[first + k], s[first + k + 1], down);
+    for k in 0..out.len() {
+        out[k] = eight_of(s[first + k], s[first + k + 1], down);
     }
-    r
 }
 
-// The seventeen bytes from byte k on; zeros past the end.
-fn seventeen(s: &[u8], k: usize) -> [u8; 17]
-    requires { ⌜ k < 2 ^ 62 ⌝ }
-    ensures { λ r. ⌜ r ≡ tabulate 17 (λ j. getD (now (s .entry)) (k + j) 0) ⌝ }
+// The same anywhere.
+fn copy_tested(s: &[u8], i: usize, out: &mut [u8])
+    ensures { λ _. ⌜ now (out .exit) ≡ pack (length (now (out .entry))) (from (bitAt (now (s .entry))) i) ⌝ }
 {
-    let mut r = [0u8; 17];
-    for j in 0..17 {
-        r[j] = byte_at(s, k + j);
+    let first = i / 8;
+    let down = (8 - i % 8) as u32;
+    for k in 0..out.len() {
+        out[k] = eight_of(byte_at(s, first + k), byte_at(s, first + k + 1), down);
     }
-    r
+}
+
+// Fills out with the bits from bit i on, wherever they stand; zeros past the end.
+pub fn copy(s: &[u8], i: usize, out: &mut [u8])
+    ensures { λ _. ⌜ now (out .exit) ≡ pack (length (now (out .entry))) (from (bitAt (now (s .entry))) i) ⌝ }
+{
+    if i / 8 + out.len() < s.len() {
+        copy_inside(s, i, out);
+    } else {
+        copy_tested(s, i, out);
+    }
 }
 
 // The sixteen bytes of the 128 bits from bit i on, wherever they stand; zeros past the end.
 pub fn word_from(s: &[u8], i: usize) -> [u8; 16]
     ensures { λ r. ⌜ r ≡ pack 16 (from (bitAt (now (s .entry))) i) ⌝ }
 {
-    if i / 8 + 16 < s.len() {
-        return word_inside(s, i);
-    }
-    word_inside(&seventeen(s, i / 8), i % 8)
+    let mut r = [0u8; 16];
+    copy(s, i, &mut r);
+    r
 }

@@ -1,16 +1,17 @@
 -- What the small functions make of bytes: nine bits, thirty-two bits, copied bits and their CRC. Assumes nothing.
-use Prim.Native.Nat.{ℕ, _+_, _*_, _/_, _<_}
+use Prim.Native.Nat.{ℕ, _+_, _*_, _/_, _%_, _≤_, _<_}
 use mathlib.Core.Path.{_≡_, sym, ap, ap₂, _∙_}
 use mathlib.Core.List.{List}
-use native.Mathlib.Nat.{add-assoc}
+use mathlib.Core.Logic.{⊎-elim}
+use native.Mathlib.Nat.{add-assoc, eq-or-lt-of-le}
 use native.Mathlib.Omega.{arith}
 use lib.Dec.{lit<}
-use lib.ListN.{getD}
-use Rattle.bits.specs.Bits.{num, bitAt, byteOf, pack, from, Bits, Bytes}
+use lib.ListN.{length, getD, List·getD-eq-default}
+use Rattle.bits.specs.Bits.{num, digit, bitOf, bitAt, byteOf, pack, from, Bits, Bytes}
 use Rattle.bits.proofs.Common.{by-bound}
-use Rattle.bits.proofs.Lists.{getD-tabulate, getD-past}
+use Rattle.bits.proofs.Lists.{getD-tabulate, getD-past, Filled, filled-at, filled-here}
 use Rattle.bits.proofs.Numbers.{num-ext, num-lt, num-split, num-front}
-use Rattle.bits.proofs.Packing.{bitOf-lt, num-bitOf, bitOf-packs, length-packs}
+use Rattle.bits.proofs.Packing.{bitOf-lt, num-bitOf, bitOf-packs, length-packs, packs-ext}
 use Rattle.crc.specs.Crc.{crcOf}
 use Rattle.crc.specs.ByBytes.{entries, crcBy}
 use Rattle.crc.proofs.Bytewise.{bytes-crc}
@@ -26,6 +27,23 @@ nine-of b h =
     ap₂ (λ (x y : ℕ). x * 2 + y) (sym (num-bitOf 8 b 0 (h 0)))
     (ap (λ (x : ℕ). x / 128) (sym (num-bitOf 8 b 1 (h 1))) ∙ num-front 1 7 (bitAt b) 8 (bitOf-lt 8 b))
     ∙ sym (num-split 8 1 (bitAt b) 0)
+
+-- the bits of a word from bit i on, out of its bytes and one of zeros
+pub zeros-behind : (v w d : List ℕ) (i : ℕ) → i < 8 → length v ≡ 16 → Filled 16 (λ k. getD v k 0) d w → getD d 16 0 ≡ 0 → pack 16 (from (bitAt w) i) ≡ pack 16 (from (bitAt v) i)
+unfolding bitOf
+zeros-behind v w d i h len e z =
+    packs-ext 8 16 (from (bitAt w) i) (from (bitAt v) i) (λ j l. ap (λ (x : ℕ). digit 8 x ((i + j) % 8)) (by ((i + j) / 8) (omega arith)))
+  where
+    by : (k : ℕ) → k ≤ 16 → getD w k 0 ≡ getD v k 0
+    by k m =
+        ⊎-elim (λ q. rw q (filled-here 0 e ∙ z ∙ sym (List·getD-eq-default v 0 (omega arith)))) (λ l. filled-at 0 e l) (eq-or-lt-of-le m)
+
+-- byte k of them
+pub byte-behind : (v x : List ℕ) (i k : ℕ) → k < 16 → x ≡ pack 16 (from (bitAt v) i) → getD x k 0 ≡ num 8 (bitAt v) (8 * k + i)
+byte-behind v x i k h e =
+    ap (λ (s : List ℕ). getD s k 0) e
+    ∙ getD-tabulate 0 16 (byteOf (from (bitAt v) i)) k h
+    ∙ num-ext 8 (from (bitAt v) i) (bitAt v) (8 * k) (8 * k + i) (λ j l. ap (bitAt v) (omega arith))
 
 -- thirty-two bits, out of the first four bytes of the bits from a on
 pub long-of : (f : ℕ → ℕ) (a : ℕ) (w : List ℕ) → w ≡ pack 16 (from f a)

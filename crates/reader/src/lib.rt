@@ -263,20 +263,12 @@ fn tally_words(t: &[u16; 4096], positions: &[u8; 512], n: usize, capture: &[u8])
 
 // ---- super frames
 
-// The slot of element e.
-fn slot(e: usize) -> usize
-    requires { ⌜ e < 2 ^ 32 ⌝ }
-    ensures { λ r. ⌜ r ≡ slotOf e ⌝ }
-{
-    e + 32 * (15 - e % 16)
-}
-
 // The word of element e, repaired.
 fn element(t: &[u16; 4096], positions: &[u8; 512], capture: &[u8], e: usize) -> [u8; 16]
     requires { ⌜ Tables (now t) (now positions) × (e < 2 ^ 32) ⌝ }
     ensures { λ r. ⌜ r ≡ repaired (now (capture .entry)) (slotOf e) ⌝ }
 {
-    let r = repair_word(t, positions, line::word_in(capture, slot(e)));
+    let r = repair_word(t, positions, line::word_in(capture, line::slot(e as u32)));
     r.word
 }
 
@@ -291,13 +283,26 @@ fn follow(a: [u8; 16], b: [u8; 16]) -> [u8; 16]
     v
 }
 
-// The bytes from bit i of v on, the scrambler's bytes added.
-fn put_bytes(v: &[u8; 16], i: usize, scr: &[u8], out: &mut [u8])
-    requires { ⌜ (i < 8) × (length (now scr) ≡ length (now out)) × (length (now out) ≤ 15) ⌝ }
-    ensures { λ _. ⌜ now (out .exit) ≡ tabulate (length (now (out .entry))) (plainByte (now (v .entry)) i (now (scr .entry))) ⌝ }
+// The bits of v from bit i on, and zeros: with a byte behind them none has to be tested.
+fn from_bit(v: [u8; 16], i: usize) -> [u8; 16]
+    requires { ⌜ i < 8 ⌝ }
+    ensures { λ r. ⌜ r ≡ pack 16 (from (bitAt v) i) ⌝ }
 {
+    let mut w = [0u8; 17];
+    for k in 0..16 {
+        w[k] = v[k];
+    }
+    bits::word_from(&w, i)
+}
+
+// The bytes from bit i of v on, the scrambler's bytes added.
+fn put_bytes(v: [u8; 16], i: usize, scr: &[u8], out: &mut [u8])
+    requires { ⌜ (i < 8) × (length (now scr) ≡ length (now out)) × (length (now out) ≤ 15) ⌝ }
+    ensures { λ _. ⌜ now (out .exit) ≡ tabulate (length (now (out .entry))) (plainByte v i (now (scr .entry))) ⌝ }
+{
+    let x = from_bit(v, i);
     for k in 0..out.len() {
-        out[k] = bits::byte_from(v, 8 * k + i) ^ scr[k];
+        out[k] = x[k] ^ scr[k];
     }
 }
 
@@ -319,22 +324,12 @@ fn frame(
         let a = 15 * l - l / 8;
         let e = 15 * (l + 1) - (l + 1) / 8;
         let v = follow(here, next);
-        put_bytes(&v, l % 8, &scr[a..e], &mut out[a..e]);
+        put_bytes(v, l % 8, &scr[a..e], &mut out[a..e]);
         here = next;
     }
 }
 
 // ---- FEC blocks, out of the bytes of a super frame
-
-// The bits of s from bit at on.
-fn copy_bits(s: &[u8], at: usize, out: &mut [u8])
-    requires { ⌜ (at < 2 ^ 32) × (length (now out) < 2 ^ 32) ⌝ }
-    ensures { λ _. ⌜ now (out .exit) ≡ pack (length (now (out .entry))) (from (bitAt (now (s .entry))) at) ⌝ }
-{
-    for k in 0..out.len() {
-        out[k] = bits::byte_from(s, at + 8 * k);
-    }
-}
 
 // The 32 bits from bit at on.
 fn long_from(s: &[u8], at: usize) -> u32
@@ -359,7 +354,7 @@ fn block_crc(crcs: &[u32; 256], s: &[u8], b: usize) -> u32
     ensures { λ r. ⌜ r ≡ crcOf infoBits (from (bitAt (now (s .entry))) (fecBits * b)) ⌝ }
 {
     let mut block = [0u8; 30583];
-    copy_bits(s, 261086 * b, &mut block);
+    bits::copy(s, 261086 * b, &mut block);
     crc::crc(crcs, &block)
 }
 
@@ -467,8 +462,8 @@ fn write_blocks(s: &[u8], info: &mut [u8], parity: &mut [u8])
     for b in 0..5 {
         let i = 30583 * b;
         let p = 2048 * b;
-        copy_bits(s, 261086 * b, &mut info[i..i + 30583]);
-        copy_bits(s, 261086 * b + 244702, &mut parity[p..p + 2048]);
+        bits::copy(s, 261086 * b, &mut info[i..i + 30583]);
+        bits::copy(s, 261086 * b + 244702, &mut parity[p..p + 2048]);
     }
 }
 

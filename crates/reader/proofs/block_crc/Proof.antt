@@ -9,14 +9,14 @@ use borrow.Author.Needs.{needs}
 use Rattle.reader.proofs.block_crc.Statement.{statement}
 use Rattle.reader.proofs.block_crc.Tie as tie
 
-mul-copy-bits : tie.Need-mul-copy-bits
-mul-copy-bits c = search needs
+mul-copy : tie.Need-mul-copy
+mul-copy c = search needs
 
-slice-aggregate-copy-bits : tie.Need-slice-aggregate-copy-bits
-slice-aggregate-copy-bits c = search needs
+slice-aggregate-copy : tie.Need-slice-aggregate-copy
+slice-aggregate-copy c = search needs
 
-copy-bits-requires : tie.Need-copy-bits-requires
-copy-bits-requires c κs = search needs
+copy-requires : tie.Need-copy-requires
+copy-requires c κs = search needs
 
 slice-aggregate-crc : tie.Need-slice-aggregate-crc
 slice-aggregate-crc c = search needs
@@ -28,15 +28,15 @@ returns : tie.Need-returns
 returns c =
     let s = c .before .before .before .before .before .before in
     let a = s .args in
-    c .crc .ensures ∙ crc-packed (now (a .crcs)) _ 30583 (from (bitAt (now (a .s))) (261086 * a .b)) (λ i. bitOf-lt 8 (now (a .s)) (261086 * a .b + i)) (s .pre .0) (c .before .before .before .copy-bits .ensures)
+    c .crc .ensures ∙ crc-packed (now (a .crcs)) _ 30583 (from (bitAt (now (a .s))) (261086 * a .b)) (λ i. bitOf-lt 8 (now (a .s)) (261086 * a .b + i)) (s .pre .0) (c .before .before .before .copy .ensures)
 
 pub block-crc-spec : {M : Type 1} → statement M
 block-crc-spec =
     tie.close
     (tie.spec
-    mul-copy-bits
-    slice-aggregate-copy-bits
-    copy-bits-requires
+    mul-copy
+    slice-aggregate-copy
+    copy-requires
     slice-aggregate-crc
     crc-requires
     returns)

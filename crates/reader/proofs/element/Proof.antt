@@ -4,9 +4,13 @@ use denote.Ref.{now}
 use Rattle.hamming.specs.Repair.{repairOf}
 use Rattle.reader.specs.Read.{repaired}
 use Rattle.reader.proofs.Pieces.{word-of}
+use native.Mathlib.Omega.{arith}
 use borrow.Author.Needs.{needs}
 use Rattle.reader.proofs.element.Statement.{statement}
 use Rattle.reader.proofs.element.Tie as tie
+
+cast-slot : tie.Need-cast-slot
+cast-slot c = omega arith
 
 slot-requires : tie.Need-slot-requires
 slot-requires c κs = search needs
@@ -25,4 +29,4 @@ returns c =
     ∙ ap (repaired cap) (c .before .before .before .slot .ensures)
 
 pub element-spec : {M : Type 1} → statement M
-element-spec = tie.close (tie.spec slot-requires word-in-requires repair-word-requires returns)
+element-spec = tie.close (tie.spec cast-slot slot-requires word-in-requires repair-word-requires returns)

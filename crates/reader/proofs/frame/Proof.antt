@@ -73,7 +73,7 @@ part-put-bytes-start c = search needs
 
 part-put-bytes-end : tie.Need-part-put-bytes-end Inv-loop μ-loop
 part-put-bytes-end c =
-    let s = c .before .before .before .before .before .before .before .before .before in
+    let s = c .before .before .before .before .before .before .before .before in
     let h : length (now (s .args .scr)) ≡ 163268 = ap length (s .pre .1) ∙ length-packs 8 163268 o in search needs
 
 sub-put-bytes-2 : tie.Need-sub-put-bytes-2 Inv-loop μ-loop
@@ -96,18 +96,18 @@ loop-less c = search needs
 
 loop-again : tie.Need-loop-again Inv-loop μ-loop
 loop-again c =
-    let h = c .before .before .before .before .before .before .before .before .before .loop in
-    let s = c .before .before .before .before .before .before .before .before .before .before .before .before .before .before in
+    let h = c .before .before .before .before .before .before .before .before .loop in
+    let s = c .before .before .before .before .before .before .before .before .before .before .before .before .before in
     let a = s .args in
     let k = startOf (h .l + 1) - startOf (h .l) in
     let cap = now (a .capture) in
     let scr = now (a .scr) in
-    let v = c .before .before .before .before .before .before .follow in
-    let e = c .before .before .before .before .before .before .before .element2 .ensures in
+    let v = c .before .before .before .before .before .follow in
+    let e = c .before .before .before .before .before .before .element2 .ensures in
     let len : length (take k (drop (startOf (h .l)) (h .out))) ≡ k = part-long (startOf (h .l)) k (h .out) (omega arith) in (
       filled-part k (startOf (h .l + 1)) (length (take k (drop (startOf (h .l)) (h .out)))) (plainByte (v .result) (h .l % 8) (take k (drop (startOf (h .l)) scr)))
           (h .inv .0) (omega arith) (omega arith) len (c .before .before .put-bytes .ensures)
-          (λ j l. element-byte cap scr (v .result) (a .f) (h .l) k j (s .pre .1) (v .ensures ∙ ap₂ followed (h .inv .1) e) (c .before .before .before .before .before .before .before .before .loop-test .taken) refl l),
+          (λ j l. element-byte cap scr (v .result) (a .f) (h .l) k j (s .pre .1) (v .ensures ∙ ap₂ followed (h .inv .1) e) (c .before .before .before .before .before .before .before .loop-test .taken) refl l),
       e,
       omega arith,
     )

@@ -1,32 +1,34 @@
 -- `reader::put_bytes` meets its contract. Assumes nothing.
 use Prim.Native.Nat.{ℕ, _-_}
-use mathlib.Core.Path.{ap}
+use mathlib.Core.Path.{refl, ap, _∙_}
+use native.Mathlib.Omega.{arith}
 use denote.Ref.{now}
 use lib.Bits.{bitXor}
 use lib.ListN.{length, getD}
-use Rattle.bits.proofs.Lists.{Filled, filled-more}
+use Rattle.bits.proofs.Lists.{Filled, filled-all, tabulate-ext}
 use Rattle.bits.proofs.LoopLaws.{loops}
 use Rattle.reader.specs.Parts.{plainByte}
+use Rattle.reader.proofs.Pieces.{byte-behind}
 use Rattle.reader.proofs.put_bytes.Statement.{statement}
 use Rattle.reader.proofs.put_bytes.Tie as tie
+use Rattle.reader.proofs.put_bytes.Reads as reads
+use Rattle.reader.proofs.put_bytes.Lts as lts
+use Rattle.reader.proofs.from_bit.Reads as from-bit-reads
 
 abbrev Inv-loop : tie.InvT-loop
-Inv-loop v i scr out₀ k₀ k-end out k = Filled k (plainByte v i scr) out₀ out
+Inv-loop i scr out₀ x k₀ k-end out k = Filled k (λ j. bitXor (getD x j 0) (getD scr j 0)) out₀ out
 
 abbrev μ-loop : tie.MeasureT-loop
-μ-loop v i scr out₀ k₀ k-end out k = length out₀ - k
+μ-loop i scr out₀ x k₀ k-end out k = length out₀ - k
+
+from-bit-requires : tie.Need-from-bit-requires Inv-loop μ-loop
+from-bit-requires c κs = search loops
 
 loop-holds : tie.Need-loop-holds Inv-loop μ-loop
 loop-holds c = search loops
 
-mul-byte-from : tie.Need-mul-byte-from Inv-loop μ-loop
-mul-byte-from c = search loops
-
-add-byte-from : tie.Need-add-byte-from Inv-loop μ-loop
-add-byte-from c = search loops
-
-byte-from-requires : tie.Need-byte-from-requires Inv-loop μ-loop
-byte-from-requires c κs = search loops
+array-read-out : tie.Need-array-read-out Inv-loop μ-loop
+array-read-out c = search loops
 
 shared-slice-read-out : tie.Need-shared-slice-read-out Inv-loop μ-loop
 shared-slice-read-out c = search loops
@@ -41,18 +43,21 @@ loop-less : tie.Need-loop-less Inv-loop μ-loop
 loop-less c = search loops
 
 loop-again : tie.Need-loop-again Inv-loop μ-loop
-unfolding plainByte
-loop-again c =
-    let l = c .before .before .before .before in
-    let a = l .before .before .before .args in
-    filled-more (l .loop .inv) (c .before .before .before .loop-test .taken)
-    (ap (λ (x : ℕ). bitXor x (getD (now (a .scr)) (l .loop .k) 0)) (c .before .byte-from .ensures))
+loop-again c = search loops
 
 same-length : tie.Need-same-length Inv-loop μ-loop
 same-length c = search loops
 
 returns : tie.Need-returns Inv-loop μ-loop
-returns c = search loops
+unfolding plainByte
+returns c =
+    let h = c .before .loop in
+    let x = c .before .before .from-bit in
+    let a = c .before .before .before .before .before .args in
+    let n = length (now (a .out)) in
+    filled-all n (h .inv) (c .loop-test .left) refl
+    ∙ tabulate-ext n (λ j. bitXor (getD (x .result) j 0) (getD (now (a .scr)) j 0)) (plainByte (a .v) (a .i) (now (a .scr)))
+    (λ j l. ap (λ (y : ℕ). bitXor y (getD (now (a .scr)) j 0)) (byte-behind (a .v) (x .result) (a .i) j (omega arith) (x .ensures)))
 
 pub put-bytes-spec : {M : Type 1} → statement M
 put-bytes-spec =
@@ -60,10 +65,9 @@ put-bytes-spec =
     (tie.spec
     Inv-loop
     μ-loop
+    from-bit-requires
     loop-holds
-    mul-byte-from
-    add-byte-from
-    byte-from-requires
+    array-read-out
     shared-slice-read-out
     slice-write-out
     add-k

@@ -26,44 +26,44 @@ mul-i c = search needs
 mul-p : tie.Need-mul-p Inv-loop μ-loop
 mul-p c = search needs
 
-mul-copy-bits : tie.Need-mul-copy-bits Inv-loop μ-loop
-mul-copy-bits c = search needs
+mul-copy : tie.Need-mul-copy Inv-loop μ-loop
+mul-copy c = search needs
 
-add-copy-bits : tie.Need-add-copy-bits Inv-loop μ-loop
-add-copy-bits c = search needs
+add-copy : tie.Need-add-copy Inv-loop μ-loop
+add-copy c = search needs
 
-sub-copy-bits : tie.Need-sub-copy-bits Inv-loop μ-loop
-sub-copy-bits c = search needs
+sub-copy : tie.Need-sub-copy Inv-loop μ-loop
+sub-copy c = search needs
 
-part-copy-bits-start : tie.Need-part-copy-bits-start Inv-loop μ-loop
-part-copy-bits-start c = search needs
+part-copy-start : tie.Need-part-copy-start Inv-loop μ-loop
+part-copy-start c = search needs
 
-part-copy-bits-end : tie.Need-part-copy-bits-end Inv-loop μ-loop
-part-copy-bits-end c = search needs
+part-copy-end : tie.Need-part-copy-end Inv-loop μ-loop
+part-copy-end c = search needs
 
-copy-bits-requires : tie.Need-copy-bits-requires Inv-loop μ-loop
-copy-bits-requires c κs = search needs
+copy-requires : tie.Need-copy-requires Inv-loop μ-loop
+copy-requires c κs = search needs
 
-mul-copy-bits-2 : tie.Need-mul-copy-bits-2 Inv-loop μ-loop
-mul-copy-bits-2 c = search needs
+mul-copy-2 : tie.Need-mul-copy-2 Inv-loop μ-loop
+mul-copy-2 c = search needs
 
-add-copy-bits-2 : tie.Need-add-copy-bits-2 Inv-loop μ-loop
-add-copy-bits-2 c = search needs
+add-copy-2 : tie.Need-add-copy-2 Inv-loop μ-loop
+add-copy-2 c = search needs
 
-add-copy-bits-3 : tie.Need-add-copy-bits-3 Inv-loop μ-loop
-add-copy-bits-3 c = search needs
+add-copy-3 : tie.Need-add-copy-3 Inv-loop μ-loop
+add-copy-3 c = search needs
 
-sub-copy-bits-2 : tie.Need-sub-copy-bits-2 Inv-loop μ-loop
-sub-copy-bits-2 c = search needs
+sub-copy-2 : tie.Need-sub-copy-2 Inv-loop μ-loop
+sub-copy-2 c = search needs
 
-part-copy-bits-start-2 : tie.Need-part-copy-bits-start-2 Inv-loop μ-loop
-part-copy-bits-start-2 c = search needs
+part-copy-start-2 : tie.Need-part-copy-start-2 Inv-loop μ-loop
+part-copy-start-2 c = search needs
 
-part-copy-bits-end-2 : tie.Need-part-copy-bits-end-2 Inv-loop μ-loop
-part-copy-bits-end-2 c = search needs
+part-copy-end-2 : tie.Need-part-copy-end-2 Inv-loop μ-loop
+part-copy-end-2 c = search needs
 
-copy-bits-requires-2 : tie.Need-copy-bits-requires-2 Inv-loop μ-loop
-copy-bits-requires-2 c κs = search needs
+copy-requires-2 : tie.Need-copy-requires-2 Inv-loop μ-loop
+copy-requires-2 c κs = search needs
 
 add-b : tie.Need-add-b Inv-loop μ-loop
 add-b c = search needs
@@ -80,9 +80,9 @@ loop-again c =
     let ki = i + 30583 - i in
     let kp = p + 2048 - p in (
       filled-part ki (30583 * (h .b + 1)) (length (take ki (drop i (h .info)))) (byteOf (from (bitAt s) (261086 * h .b)))
-          (h .inv .0) (omega arith) (omega arith) (part-long i ki (h .info) (omega arith)) (c .before .before .before .before .before .before .copy-bits .ensures) (λ j l. info-byte s (h .b) j (omega arith)),
+          (h .inv .0) (omega arith) (omega arith) (part-long i ki (h .info) (omega arith)) (c .before .before .before .before .before .before .copy .ensures) (λ j l. info-byte s (h .b) j (omega arith)),
       filled-part kp (2048 * (h .b + 1)) (length (take kp (drop p (h .parity)))) (byteOf (from (bitAt s) (261086 * h .b + 244702)))
-          (h .inv .1) (omega arith) (omega arith) (part-long p kp (h .parity) (omega arith)) (c .before .before .copy-bits2 .ensures) (λ j l. parity-byte s (h .b) j (omega arith)),
+          (h .inv .1) (omega arith) (omega arith) (part-long p kp (h .parity) (omega arith)) (c .before .before .copy2 .ensures) (λ j l. parity-byte s (h .b) j (omega arith)),
       omega arith,
     )
 
@@ -106,19 +106,19 @@ write-blocks-spec =
     loop-holds
     mul-i
     mul-p
-    mul-copy-bits
-    add-copy-bits
-    sub-copy-bits
-    part-copy-bits-start
-    part-copy-bits-end
-    copy-bits-requires
-    mul-copy-bits-2
-    add-copy-bits-2
-    add-copy-bits-3
-    sub-copy-bits-2
-    part-copy-bits-start-2
-    part-copy-bits-end-2
-    copy-bits-requires-2
+    mul-copy
+    add-copy
+    sub-copy
+    part-copy-start
+    part-copy-end
+    copy-requires
+    mul-copy-2
+    add-copy-2
+    add-copy-3
+    sub-copy-2
+    part-copy-start-2
+    part-copy-end-2
+    copy-requires-2
     add-b
     loop-less
     loop-again

@@ -1,23 +1,24 @@
--- `bits::word_inside` meets its contract: a byte a turn. Assumes nothing.
+-- `bits::copy_inside` meets its contract: a byte a turn. Assumes nothing.
 use Prim.Native.Nat.{_-_}
 use mathlib.Core.Path.{refl, _∙_}
 use native.Mathlib.Omega.{arith}
 use denote.Ref.{now}
+use lib.ListN.{length}
 use Rattle.bits.specs.Bits.{bitAt, byteOf, from}
 use Rattle.bits.proofs.Lists.{Filled, filled-more}
 use Rattle.bits.proofs.LoopLaws.{loops}
 use Rattle.bits.proofs.Packing.{num-window-from}
-use Rattle.bits.proofs.word_inside.Statement.{statement}
-use Rattle.bits.proofs.word_inside.Tie as tie
-use Rattle.bits.proofs.word_inside.Reads as reads
-use Rattle.bits.proofs.word_inside.Lts as lts
+use Rattle.bits.proofs.copy_inside.Statement.{statement}
+use Rattle.bits.proofs.copy_inside.Tie as tie
+use Rattle.bits.proofs.copy_inside.Reads as reads
+use Rattle.bits.proofs.copy_inside.Lts as lts
 use Rattle.bits.proofs.eight_of.Reads as eight-of-reads
 
 abbrev Inv-loop : tie.InvT-loop
-Inv-loop s i first down r₀ k₀ r k = Filled k (byteOf (from (bitAt s) i)) r₀ r
+Inv-loop s i out₀ first down k₀ k-end out k = Filled k (byteOf (from (bitAt s) i)) out₀ out
 
 abbrev μ-loop : tie.MeasureT-loop
-μ-loop s i first down r₀ k₀ r k = 16 - k
+μ-loop s i out₀ first down k₀ k-end out k = length out₀ - k
 
 sub-down : tie.Need-sub-down Inv-loop μ-loop
 sub-down c = search loops
@@ -46,8 +47,8 @@ shared-slice-read-eight-of-2 c = search loops
 eight-of-requires : tie.Need-eight-of-requires Inv-loop μ-loop
 eight-of-requires c κs = search loops
 
-array-write-r : tie.Need-array-write-r Inv-loop μ-loop
-array-write-r c = search loops
+slice-write-out : tie.Need-slice-write-out Inv-loop μ-loop
+slice-write-out c = search loops
 
 add-k : tie.Need-add-k Inv-loop μ-loop
 add-k c = search loops
@@ -57,16 +58,19 @@ loop-less c = search loops
 
 loop-again : tie.Need-loop-again Inv-loop μ-loop
 loop-again c =
-    let a = c .before .before .before .before .before .before .args in
     let h = c .before .before .before .before .loop in
+    let a = c .before .before .before .before .before .before .before .args in
     let e = c .eight-of .ensures in
     filled-more (h .inv) (c .before .before .before .loop-test .taken) (e .is ∙ num-window-from 8 (now (a .s)) (a .i) (h .k) _ _ (omega arith) (e .high) (e .low) refl refl)
+
+same-length : tie.Need-same-length Inv-loop μ-loop
+same-length c = search loops
 
 returns : tie.Need-returns Inv-loop μ-loop
 returns c = search loops
 
-pub word-inside-spec : {M : Type 1} → statement M
-word-inside-spec =
+pub copy-inside-spec : {M : Type 1} → statement M
+copy-inside-spec =
     tie.close
     (tie.spec
     Inv-loop
@@ -80,8 +84,9 @@ word-inside-spec =
     add-eight-of-3
     shared-slice-read-eight-of-2
     eight-of-requires
-    array-write-r
+    slice-write-out
     add-k
     loop-less
     loop-again
+    same-length
     returns)

@@ -1,0 +1,93 @@
+-- `bits::copy_tested` meets its contract: a byte a turn. Assumes nothing.
+use Prim.Native.Nat.{_-_}
+use mathlib.Core.Path.{_∙_}
+use native.Mathlib.Omega.{arith}
+use denote.Ref.{now}
+use lib.ListN.{length}
+use Rattle.bits.specs.Bits.{bitAt, byteOf, from}
+use Rattle.bits.proofs.Lists.{Filled, filled-more}
+use Rattle.bits.proofs.LoopLaws.{loops}
+use Rattle.bits.proofs.Packing.{num-window-from}
+use Rattle.bits.proofs.copy_tested.Statement.{statement}
+use Rattle.bits.proofs.copy_tested.Tie as tie
+use Rattle.bits.proofs.copy_tested.Reads as reads
+use Rattle.bits.proofs.copy_tested.Lts as lts
+use Rattle.bits.proofs.byte_at.Reads as byte-at-reads
+use Rattle.bits.proofs.eight_of.Reads as eight-of-reads
+
+abbrev Inv-loop : tie.InvT-loop
+Inv-loop s i out₀ first down k₀ k-end out k = Filled k (byteOf (from (bitAt s) i)) out₀ out
+
+abbrev μ-loop : tie.MeasureT-loop
+μ-loop s i out₀ first down k₀ k-end out k = length out₀ - k
+
+sub-down : tie.Need-sub-down Inv-loop μ-loop
+sub-down c = search loops
+
+cast-down : tie.Need-cast-down Inv-loop μ-loop
+cast-down c = search loops
+
+loop-holds : tie.Need-loop-holds Inv-loop μ-loop
+loop-holds c = search loops
+
+add-byte-at : tie.Need-add-byte-at Inv-loop μ-loop
+add-byte-at c = search loops
+
+byte-at-requires : tie.Need-byte-at-requires Inv-loop μ-loop
+byte-at-requires c κs = search loops
+
+add-byte-at-2 : tie.Need-add-byte-at-2 Inv-loop μ-loop
+add-byte-at-2 c = search loops
+
+add-byte-at-3 : tie.Need-add-byte-at-3 Inv-loop μ-loop
+add-byte-at-3 c = search loops
+
+byte-at-requires-2 : tie.Need-byte-at-requires-2 Inv-loop μ-loop
+byte-at-requires-2 c κs = search loops
+
+eight-of-requires : tie.Need-eight-of-requires Inv-loop μ-loop
+eight-of-requires c κs = search loops
+
+slice-write-out : tie.Need-slice-write-out Inv-loop μ-loop
+slice-write-out c = search loops
+
+add-k : tie.Need-add-k Inv-loop μ-loop
+add-k c = search loops
+
+loop-less : tie.Need-loop-less Inv-loop μ-loop
+loop-less c = search loops
+
+loop-again : tie.Need-loop-again Inv-loop μ-loop
+loop-again c =
+    let h = c .before .before .before .before .loop in
+    let a = c .before .before .before .before .before .before .before .args in
+    let e = c .eight-of .ensures in
+    filled-more (h .inv) (c .before .before .before .loop-test .taken) (e .is ∙ num-window-from 8 (now (a .s)) (a .i) (h .k) _ _ (omega arith) (e .high) (e .low) (c .before .before .byte-at .ensures) (c .before .byte-at2 .ensures))
+
+same-length : tie.Need-same-length Inv-loop μ-loop
+same-length c = search loops
+
+returns : tie.Need-returns Inv-loop μ-loop
+returns c = search loops
+
+pub copy-tested-spec : {M : Type 1} → statement M
+copy-tested-spec =
+    tie.close
+    (tie.spec
+    Inv-loop
+    μ-loop
+    sub-down
+    cast-down
+    loop-holds
+    add-byte-at
+    byte-at-requires
+    add-byte-at-2
+    add-byte-at-3
+    byte-at-requires-2
+    eight-of-requires
+    slice-write-out
+    add-k
+    loop-less
+    loop-again
+    same-length
+    returns)

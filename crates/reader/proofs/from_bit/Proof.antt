@@ -1,0 +1,67 @@
+-- `reader::from_bit` meets its contract: a byte of zeros behind changes no bit. Assumes nothing.
+use Prim.Native.Nat.{_-_, _≤_}
+use mathlib.Core.Path.{refl, _∙_}
+use native.Mathlib.Omega.{arith}
+use lib.ListN.{getD}
+use Rattle.bits.proofs.Lists.{Filled, filled-none, filled-more, filled-to}
+use Rattle.bits.proofs.LoopLaws.{loops}
+use Rattle.reader.proofs.Pieces.{zeros-behind}
+use Rattle.reader.proofs.from_bit.Statement.{statement}
+use Rattle.reader.proofs.from_bit.Tie as tie
+use Rattle.reader.proofs.from_bit.Reads as reads
+use Rattle.reader.proofs.from_bit.Lts as lts
+use Rattle.bits.proofs.word_from.Reads as word-from-reads
+
+abbrev Inv-loop : tie.InvT-loop
+Inv-loop i v w₀ k₀ w k = Filled k (λ j. getD v j 0) w₀ w × (k ≤ 16)
+
+abbrev μ-loop : tie.MeasureT-loop
+μ-loop i v w₀ k₀ w k = 16 - k
+
+loop-holds : tie.Need-loop-holds Inv-loop μ-loop
+loop-holds c = (filled-none, omega arith)
+
+array-read-w : tie.Need-array-read-w Inv-loop μ-loop
+array-read-w c = search loops
+
+array-write-w : tie.Need-array-write-w Inv-loop μ-loop
+array-write-w c = search loops
+
+add-k : tie.Need-add-k Inv-loop μ-loop
+add-k c = search loops
+
+loop-less : tie.Need-loop-less Inv-loop μ-loop
+loop-less c = search loops
+
+loop-again : tie.Need-loop-again Inv-loop μ-loop
+loop-again c =
+    let h = c .before .loop in (filled-more (h .inv .0) (omega arith) refl, omega arith)
+
+slice-aggregate-word-from : tie.Need-slice-aggregate-word-from Inv-loop μ-loop
+slice-aggregate-word-from c = search loops
+
+word-from-requires : tie.Need-word-from-requires Inv-loop μ-loop
+word-from-requires c κs = search loops
+
+returns : tie.Need-returns Inv-loop μ-loop
+returns c =
+    let h = c .before .before .before .loop in
+    let a = c .before .before .before .before .args in
+    c .word-from .ensures
+    ∙ zeros-behind (a .t1) (h .w) _ (a .i) (omega arith) (search loops) (filled-to 16 (h .inv .0) (omega (arith, h .inv .1, c .before .before .loop-test .left))) refl
+
+pub from-bit-spec : {M : Type 1} → statement M
+from-bit-spec =
+    tie.close
+    (tie.spec
+    Inv-loop
+    μ-loop
+    loop-holds
+    array-read-w
+    array-write-w
+    add-k
+    loop-less
+    loop-again
+    slice-aggregate-word-from
+    word-from-requires
+    returns)
