@@ -73,11 +73,15 @@ by-word t tails e p q =
     ∙ ap (λ (x : ℕ). x % 512) (getD-tabulate 0 512 tailOf (elementSum f) h)
     ∙ mod-eq-of-lt (tail-lt (elementSum f) h))
 
-pub by-repair : (t positions w : List ℕ) → t ≡ byteTable → positions ≡ positionTable → Bytes w → repairBy t positions w ≡ repairOf w
-unfolding repairBy repairOf
-by-repair t positions w p q b =
-    ap₂ (λ (l : List ℕ) (c : ℕ). repairAt w c (getD l c 0)) q (by-checks t w p b)
+pub by-known : (positions w : List ℕ) (c : ℕ) → positions ≡ positionTable → c ≡ checksOf w → repairAt w c (getD positions c 0) ≡ repairOf w
+unfolding repairOf
+by-known positions w c q e =
+    ap₂ (λ (l : List ℕ) (x : ℕ). repairAt w x (getD l x 0)) q e
     ∙ ap (repairAt w (checksOf w)) (getD-tabulate 0 512 positionOf (checksOf w) (checks-lt w))
+
+pub by-repair : (t positions w : List ℕ) → t ≡ byteTable → positions ≡ positionTable → Bytes w → repairBy t positions w ≡ repairOf w
+unfolding repairBy
+by-repair t positions w p q b = by-known positions w (sumBy t w) q (by-checks t w p b)
 
 -- ---- the two bytes that hold the check bits
 

@@ -226,10 +226,17 @@ pub fn repair(w: [u8; 16]) -> Repaired
     repair_at(w, c, position(c))
 }
 
+// The word where its checks c are known already, by the lent table of `position_table`.
+pub fn repair_known(positions: &[u8; 512], w: [u8; 16], c: u16) -> Repaired
+    ensures { λ r. ⌜ r ≡ repairAt w c (getD (now (positions .entry)) c 0) ⌝ }
+{
+    repair_at(w, c, bits::byte_at(positions, index(c)))
+}
+
 // The same by lent tables: those of `byte_table` and `position_table`.
 pub fn repair_by(t: &[u16; 4096], positions: &[u8; 512], w: [u8; 16]) -> Repaired
     ensures { λ r. ⌜ r ≡ repairBy (now (t .entry)) (now (positions .entry)) w ⌝ }
 {
     let c = checks_by(t, w);
-    repair_at(w, c, bits::byte_at(positions, index(c)))
+    repair_known(positions, w, c)
 }

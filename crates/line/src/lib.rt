@@ -3,6 +3,7 @@ ghost use mathlib.Core.Path.{_≡_};
 ghost use Prim.Native.Nat.{_/_, _<_};
 ghost use lib.ListN.{length, getD};
 ghost use Rattle.bits.specs.Bits.{bitAt, pack, added};
+ghost use Rattle.hamming.specs.Lent.{sumBy};
 ghost use Rattle.line.specs.Captures.{superAllowed};
 ghost use Rattle.line.specs.Fec.{mbasAllowed, mbasOf};
 ghost use Rattle.line.specs.Slots.{slotOf, delay, elementIn, holds};
@@ -125,5 +126,29 @@ pub fn word_in(capture: &[u8], w: usize) -> [u8; 16]
         word_inside(capture, w)
     } else {
         word_tested(capture, w)
+    }
+}
+
+// The checks of word w where the capture has the whole of its group.
+fn checks_inside(t: &[u16; 4096], capture: &[u8], w: usize) -> u16
+    requires { ⌜ w / 8 < length (now capture) / 128 ⌝ }
+    ensures { λ r. ⌜ r ≡ sumBy (now (t .entry)) (wordIn (now (capture .entry)) w) ⌝ }
+{
+    let at = 128 * (w / 8) + w % 8;
+    let mut sum = 0u16;
+    for k in 0..16 {
+        sum = sum ^ t[256 * k + bits::wide(capture[at + 8 * k]) as usize];
+    }
+    sum
+}
+
+// The nine checks of word w of a capture, by the lent table of `hamming::byte_table`: a word that passes need not be put together.
+pub fn checks_in(t: &[u16; 4096], capture: &[u8], w: usize) -> u16
+    ensures { λ r. ⌜ r ≡ sumBy (now (t .entry)) (wordIn (now (capture .entry)) w) ⌝ }
+{
+    if w / 8 < capture.len() / 128 {
+        checks_inside(t, capture, w)
+    } else {
+        hamming::checks_by(t, word_in(capture, w))
     }
 }

@@ -18,7 +18,9 @@ use Rattle.crc.proofs.Bytewise.{bytes-crc}
 use Rattle.crc.proofs.Changes.{crc-ext}
 use Rattle.hamming.specs.declared.Repaired.{Repaired}
 use Rattle.hamming.specs.Repair.{repairOf}
-use Rattle.line.specs.Words.{wordIn}
+use Rattle.hamming.proofs.Repairs.{none-kept}
+use Rattle.hamming.specs.Code.{checksOf}
+use Rattle.line.specs.Words.{symbolPlace, symbolOf, wordIn}
 use Rattle.reader.specs.Read.{repaired}
 
 -- the first nine bits of b
@@ -79,3 +81,15 @@ crc-packed t s n g b et es =
 pub word-of : (cap : List ℕ) (w : ℕ) (r : Repaired) → r ≡ repairOf (wordIn cap w) → r .word ≡ repaired cap w
 unfolding repaired
 word-of cap w r e = ap (λ (x : Repaired). x .word) e
+
+-- ---- words whose checks are known
+
+pub word-bytes : (cap : List ℕ) (w : ℕ) → Bytes cap → Bytes (wordIn cap w)
+unfolding wordIn
+word-bytes cap w h k =
+    by-bound 16 k (λ l. rw (getD-tabulate 0 16 (symbolOf cap w) k l) (h (symbolPlace w k))) (λ l. rw (getD-past 0 16 (symbolOf cap w) k l) (lit< tt))
+
+-- checks zero: the word stays
+pub word-kept : (cap : List ℕ) (w : ℕ) → checksOf (wordIn cap w) ≡ 0 → wordIn cap w ≡ repaired cap w
+unfolding repaired
+word-kept cap w e = sym (ap (λ (x : Repaired). x .word) (none-kept (wordIn cap w) e))

@@ -88,6 +88,16 @@ filled-is N cap w r e = ap (λ (x : Repaired). not (holds N w) && not (allZero (
 pub seen-as : (cap : List ℕ) (w : ℕ) (r : Repaired) → r ≡ repairOf (wordIn cap w) → found (r .found) ≡ isSeen cap w
 seen-as cap w r e = ap (λ (x : Repaired). found (x .found)) e ∙ seen-is cap w
 
+-- a word that holds an element and passes its checks is none of the three
+pub record Plain (N : ℕ) (cap : List ℕ) (w : ℕ) : Type 0 where
+  pub not-beyond : isBeyond cap w ≡ false
+  pub not-filled : isFilled N cap w ≡ false
+  pub not-seen : isSeen cap w ≡ false
+
+pub plain-word : (N : ℕ) (cap : List ℕ) (w : ℕ) → checksOf (wordIn cap w) ≡ 0 → holds N w ≡ true → Plain N cap w
+unfolding isBeyond isFilled isSeen repairOf repairAt
+plain-word N cap w e h = record { not-beyond = rw e; not-filled = rw h; not-seen = rw e }
+
 -- word w is taken in
 pub word-more : (N : ℕ) (cap : List ℕ) (w : ℕ) (s : WordTally) (b f c : ℕ) → s ≡ wordsTo N cap w
     → b ≡ soughtOf (s .beyond) w (isBeyond cap w) → f ≡ soughtOf (s .filler) w (isFilled N cap w) → c ≡ s .seen + cond (isSeen cap w) 1 0

@@ -5,6 +5,7 @@ use hamming::Repaired;
 ghost use mathlib.Core.Bool.{not, _&&_};
 ghost use mathlib.Core.Path.{_≡_};
 ghost use Prim.Native.Nat.{_+_, _*_, _^_, _<_, _≤_};
+ghost use lib.Dec.{eqb};
 ghost use lib.ListN.{length};
 ghost use Rattle.bits.specs.Bits.{tabulate, num, bitAt, pack, from};
 ghost use Rattle.bits.specs.Loops.{upto};
@@ -12,13 +13,15 @@ ghost use Rattle.answer.specs.Rows.{done};
 ghost use Rattle.answer.specs.Outcomes.{Outcome};
 ghost use Rattle.crc.specs.Crc.{crcOf};
 ghost use Rattle.crc.specs.ByBytes.{entries};
+ghost use Rattle.hamming.specs.Code.{checksOf};
+ghost use Rattle.hamming.specs.Lent.{byteTable, positionTable};
 ghost use Rattle.hamming.specs.Repair.{repairOf};
 ghost use Rattle.line.specs.Sizes.{infoBits, fecBits, superBytes, infoLength, parityLength, words};
 ghost use Rattle.line.specs.Captures.{superAllowed};
 ghost use Rattle.line.specs.Fec.{mbasAllowed};
 ghost use Rattle.line.specs.Frames.{infoOf, parityOf};
 ghost use Rattle.line.specs.Slots.{slotOf, holds};
-ghost use Rattle.line.specs.Words.{fecIn};
+ghost use Rattle.line.specs.Words.{wordIn, fecIn};
 ghost use Rattle.reader.specs.Read.{repaired, allZero, readAnswer, readLeaves};
 ghost use Rattle.reader.specs.Parts.{judged, Accepted, OneIf, Tables, sequence, soughtOf, found, wordsTo, frameOf, followed, plainByte, mbasOff, crcOff, padOff, blockTaken, framesTo, infoIn, parityIn, verdictOf, lateAnswer, lateLeaves};
 
@@ -176,12 +179,20 @@ fn sought(x: usize, k: usize, here: bool) -> usize
 
 // ---- words
 
-// A word, repaired by the lent tables.
-fn repair_word(t: &[u16; 4096], positions: &[u8; 512], word: [u8; 16]) -> Repaired
-    requires { ⌜ Tables (now t) (now positions) ⌝ }
+// The checks of word w, by the lent table.
+fn checks(t: &[u16; 4096], capture: &[u8], w: usize) -> u16
+    requires { ⌜ now t ≡ byteTable ⌝ }
+    ensures { λ r. ⌜ r ≡ checksOf (wordIn (now (capture .entry)) w) ⌝ }
+{
+    line::checks_in(t, capture, w)
+}
+
+// A word whose checks are c, repaired by the lent table.
+fn repair_word(positions: &[u8; 512], word: [u8; 16], c: u16) -> Repaired
+    requires { ⌜ (now positions ≡ positionTable) × (c ≡ checksOf word) ⌝ }
     ensures { λ r. ⌜ r ≡ repairOf word ⌝ }
 {
-    hamming::repair_by(t, positions, word)
+    hamming::repair_known(positions, word, c)
 }
 
 // Whether the checks were not zero: a repaired check bit counts too.
@@ -216,6 +227,13 @@ fn is_filled(n: usize, w: usize, word: [u8; 16]) -> bool
     !all_zero(word)
 }
 
+// Whether word w holds an element and its checks c are zero: then there is nothing to find.
+fn is_plain(n: usize, w: usize, c: u16) -> bool
+    ensures { λ r. ⌜ r ≡ (eqb c 0 && holds n w) ⌝ }
+{
+    c == 0 && line::holds_element(n, w)
+}
+
 fn one_if(b: bool) -> usize
     ensures { λ r. ⌜ OneIf b r ⌝ }
 {
@@ -234,8 +252,16 @@ fn take_word(
     requires { ⌜ Tables (now t) (now positions) × (w < 2 ^ 32) × (s ≡ wordsTo n (now capture) w) ⌝ }
     ensures { λ r. ⌜ r ≡ wordsTo n (now (capture .entry)) (w + 1) ⌝ }
 {
+    let c = checks(t, capture, w);
+    if is_plain(n, w, c) {
+        return WordTally {
+            beyond: sought(s.beyond, w, false),
+            filler: sought(s.filler, w, false),
+            seen: s.seen,
+        };
+    }
     let received = line::word_in(capture, w);
-    let r = repair_word(t, positions, received);
+    let r = repair_word(positions, received, c);
     let f = r.found;
     let word = r.word;
     WordTally {
@@ -268,7 +294,13 @@ fn element(t: &[u16; 4096], positions: &[u8; 512], capture: &[u8], e: usize) -> 
     requires { ⌜ Tables (now t) (now positions) × (e < 2 ^ 32) ⌝ }
     ensures { λ r. ⌜ r ≡ repaired (now (capture .entry)) (slotOf e) ⌝ }
 {
-    let r = repair_word(t, positions, line::word_in(capture, line::slot(e as u32)));
+    let w = line::slot(e as u32);
+    let c = checks(t, capture, w);
+    let word = line::word_in(capture, w);
+    if c == 0 {
+        return word;
+    }
+    let r = repair_word(positions, word, c);
     r.word
 }
 

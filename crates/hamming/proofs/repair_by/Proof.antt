@@ -1,6 +1,6 @@
 -- `hamming::repair_by` meets its contract: what the callees say, put together. Assumes nothing.
 use Prim.Native.Nat.{ℕ}
-use mathlib.Core.Path.{ap, ap₂, _∙_}
+use mathlib.Core.Path.{ap, _∙_}
 use denote.Ref.{now}
 use borrow.Author.Needs.{needs}
 use lib.ListN.{getD}
@@ -12,25 +12,14 @@ use Rattle.hamming.proofs.repair_by.Tie as tie
 checks-by-requires : tie.Need-checks-by-requires
 checks-by-requires c κs = search needs
 
-index-requires : tie.Need-index-requires
-index-requires c κs = search needs
-
-byte-at-requires : tie.Need-byte-at-requires
-byte-at-requires c κs = search needs
-
-repair-at-requires : tie.Need-repair-at-requires
-repair-at-requires c κs = search needs
+repair-known-requires : tie.Need-repair-known-requires
+repair-known-requires c κs = search needs
 
 returns : tie.Need-returns
 unfolding repairBy
 returns c =
-    let b = c .before .before .before .before in
-    let a = b .before .args in
-    c .repair-at .ensures
-    ∙ ap₂ (repairAt (a .w)) (b .checks-by .ensures)
-    (c .before .byte-at .ensures ∙ ap (λ (i : ℕ). getD (now (a .positions)) i 0) (c .before .before .index .ensures ∙ b .checks-by .ensures))
+    let a = c .before .before .args in
+    c .repair-known .ensures ∙ ap (λ (x : ℕ). repairAt (a .w) x (getD (now (a .positions)) x 0)) (c .before .checks-by .ensures)
 
 pub repair-by-spec : {M : Type 1} → statement M
-repair-by-spec =
-    tie.close
-    (tie.spec checks-by-requires index-requires byte-at-requires repair-at-requires returns)
+repair-by-spec = tie.close (tie.spec checks-by-requires repair-known-requires returns)

@@ -1,32 +1,62 @@
 -- `reader::element` meets its contract. Assumes nothing.
-use mathlib.Core.Path.{ap, _∙_}
+use mathlib.Core.Path.{sym, ap, _∙_}
 use denote.Ref.{now}
+use Rattle.hamming.specs.Code.{checksOf}
 use Rattle.hamming.specs.Repair.{repairOf}
+use Rattle.line.specs.Words.{wordIn}
 use Rattle.reader.specs.Read.{repaired}
-use Rattle.reader.proofs.Pieces.{word-of}
-use native.Mathlib.Omega.{arith}
+use Rattle.reader.proofs.Pieces.{word-of, word-kept}
 use borrow.Author.Needs.{needs}
 use Rattle.reader.proofs.element.Statement.{statement}
 use Rattle.reader.proofs.element.Tie as tie
+use Rattle.reader.proofs.element.Reads as reads
+use Rattle.reader.proofs.element.Lts as lts
+use Rattle.line.proofs.slot.Reads as slot-reads
+use Rattle.line.proofs.word_in.Reads as word-in-reads
+use Rattle.reader.proofs.checks.Reads as checks-reads
+use Rattle.reader.proofs.repair_word.Reads as repair-word-reads
 
 cast-slot : tie.Need-cast-slot
-cast-slot c = omega arith
+cast-slot c = search needs
 
 slot-requires : tie.Need-slot-requires
 slot-requires c κs = search needs
 
+checks-requires : tie.Need-checks-requires
+checks-requires c κs = search needs
+
 word-in-requires : tie.Need-word-in-requires
 word-in-requires c κs = search needs
 
-repair-word-requires : tie.Need-repair-word-requires
-repair-word-requires c κs = search needs
-
 returns : tie.Need-returns
 returns c =
-    let cap = now (c .before .before .before .before .before .args .capture) in
+    let k = c .before .before in
+    let a = k .before .before .before .args in
+    let cap = now (a .capture) in
+    let w = k .before .slot in
+    c .before .word-in .ensures ∙ word-kept cap (w .result) (sym (k .checks .ensures) ∙ c .if1 .taken) ∙ ap (repaired cap) (w .ensures)
+
+repair-word-requires : tie.Need-repair-word-requires
+repair-word-requires c κs =
+    let k = c .before .before in
+    (k .before .before .before .pre .0 .places, k .checks .ensures ∙ ap checksOf (sym (c .before .word-in .ensures)))
+
+returns-2 : tie.Need-returns-2
+returns-2 c =
     let r = c .before .repair-word in
-    word-of cap (c .before .before .before .slot .result) (r .result) (r .ensures ∙ ap repairOf (c .before .before .word-in .ensures))
-    ∙ ap (repaired cap) (c .before .before .before .slot .ensures)
+    let v = c .before .before .before in
+    let w = v .before .before .slot in
+    let cap = now (v .before .before .before .before .args .capture) in
+    word-of cap (w .result) (r .result) (r .ensures ∙ ap repairOf (v .word-in .ensures)) ∙ ap (repaired cap) (w .ensures)
 
 pub element-spec : {M : Type 1} → statement M
-element-spec = tie.close (tie.spec cast-slot slot-requires word-in-requires repair-word-requires returns)
+element-spec =
+    tie.close
+    (tie.spec
+    cast-slot
+    slot-requires
+    checks-requires
+    word-in-requires
+    returns
+    repair-word-requires
+    returns-2)
