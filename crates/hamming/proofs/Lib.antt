@@ -5,4 +5,5 @@ pub mod Turning
 pub mod Words
 pub mod Repairs
 pub mod Tabled
+pub mod Doubling
 pub mod Unique

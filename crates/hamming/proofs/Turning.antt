@@ -18,7 +18,7 @@ use Rattle.hamming.specs.Code.{checksOf, turn}
 use Rattle.hamming.proofs.Sums.{unit, unit-same, unit-other, unit-lt, taken-xor, sum-unit}
 
 -- the digits of the byte 128 / 2 ^ a: the only 1 stands at a. The test goes over the 64 pairs
-mark-digit : (a b : ℕ) → a < 8 → b < 8 → digit 8 (128 / 2 ^ a) b ≡ unit a b
+pub mark-digit : (a b : ℕ) → a < 8 → b < 8 → digit 8 (128 / 2 ^ a) b ≡ unit a b
 unfolding digit unit
 mark-digit a b h k =
     let p : (8 * a + b) / 8 ≡ a = omega arith in

@@ -3,3 +3,4 @@ pub mod Columns
 pub mod Code
 pub mod Repair
 pub mod Lent
+pub mod Doubling

@@ -7,13 +7,14 @@ use columns::COLUMNS;
 use positions::POSITIONS;
 use tails::TAILS;
 ghost use mathlib.Core.Path.{_≡_};
-ghost use Prim.Native.Nat.{_*_, _<_};
+ghost use Prim.Native.Nat.{_+_, _*_, _≤_, _<_};
 ghost use lib.ListN.{getD};
 ghost use Rattle.bits.specs.Bits.{digit, bitAt};
 ghost use Rattle.bits.specs.Posts.{Widened};
 ghost use Rattle.hamming.specs.Columns.{columns, positionOf};
 ghost use Rattle.hamming.specs.Code.{checksOf, turn, tailOf, joinedWord, wordOf};
 ghost use Rattle.hamming.specs.Repair.{repairAt, repairOf, numberOf};
+ghost use Rattle.hamming.specs.Doubling.{Begun, Doubles};
 ghost use Rattle.hamming.specs.Lent.{byteSum, byteTable, tailTable, positionTable, sumBy, wordBy, repairBy};
 
 // What repair found: nothing, the bit that it turned, or more than it can repair.
@@ -86,14 +87,37 @@ pub fn checks(w: [u8; 16]) -> u16
     sum
 }
 
+// The entries from at + n on, out of the n before them: each has one bit more, whose column is c.
+fn double(t: &mut [u16; 4096], at: usize, n: usize, c: u16)
+    requires { ⌜ (at + 2 * n ≤ 4096) × Doubles at n c × Begun (at + n) (now t) ⌝ }
+    ensures { λ _. ⌜ Begun (at + 2 * n) (now (t .exit)) ⌝ }
+{
+    for r in 0..n {
+        t[at + n + r] = t[at + r] ^ c;
+    }
+}
+
+// The entries of byte k, from those before them. Its lowest bit comes first.
+fn fill_row(c: &[u16; 128], k: usize, t: &mut [u16; 4096])
+    requires { ⌜ (now c ≡ columns) × (k < 16) × Begun (256 * k) (now t) ⌝ }
+    ensures { λ _. ⌜ Begun (256 * k + 256) (now (t .exit)) ⌝ }
+{
+    t[256 * k] = 0;
+    let mut n: usize = 1;
+    for j in 0..8 {
+        double(t, 256 * k, n, c[8 * k + 7 - j]);
+        n = n * 2;
+    }
+}
+
 // The same for every byte at every place: what `checks_by` takes.
 pub fn byte_table() -> [u16; 4096]
     ensures { λ r. ⌜ r ≡ byteTable ⌝ }
 {
     let c = column_table();
     let mut t = [0u16; 4096];
-    for e in 0..4096 {
-        t[e] = byte_sum(&c, e / 256, (e % 256) as u8);
+    for k in 0..16 {
+        fill_row(&c, k, &mut t);
     }
     t
 }

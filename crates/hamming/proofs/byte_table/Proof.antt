@@ -1,48 +1,43 @@
--- `hamming::byte_table` meets its contract: the loop fills the table from the front. Assumes nothing.
-use Prim.Native.Nat.{_-_}
+-- `hamming::byte_table` meets its contract: row after row. Assumes nothing.
+use Prim.Native.Nat.{_+_, _-_, _*_, _≤_}
+use mathlib.Core.Path.{refl}
 use native.Mathlib.Omega.{arith}
-use Rattle.bits.proofs.Lists.{Filled}
-use Rattle.bits.proofs.LoopLaws.{loops}
-use Rattle.hamming.specs.Lent.{byteEntry}
+use borrow.Author.Needs.{needs}
+use Rattle.hamming.specs.Doubling.{Begun}
+use Rattle.hamming.proofs.Doubling.{begun-none, begun-to, begun-all}
 use Rattle.hamming.proofs.byte_table.Statement.{statement}
 use Rattle.hamming.proofs.byte_table.Tie as tie
+use Rattle.hamming.proofs.byte_table.Reads as reads
+use Rattle.hamming.proofs.byte_table.Lts as lts
+use Rattle.hamming.proofs.column_table.Reads as column-table-reads
+use Rattle.hamming.proofs.fill_row.Reads as fill-row-reads
 
 abbrev Inv-loop : tie.InvT-loop
-Inv-loop c t₀ e₀ t e = Filled e byteEntry t₀ t
+Inv-loop c t₀ k₀ t k = (k ≤ 16) × Begun (256 * k) t
 
 abbrev μ-loop : tie.MeasureT-loop
-μ-loop c t₀ e₀ t e = 4096 - e
+μ-loop c t₀ k₀ t k = 16 - k
 
 column-table-requires : tie.Need-column-table-requires Inv-loop μ-loop
-column-table-requires c κs = search loops
+column-table-requires c κs = search needs
 
 loop-holds : tie.Need-loop-holds Inv-loop μ-loop
-loop-holds c = search loops
+loop-holds c = (omega arith, begun-none refl)
 
-cast-byte-sum : tie.Need-cast-byte-sum Inv-loop μ-loop
-cast-byte-sum c = search loops
+fill-row-requires : tie.Need-fill-row-requires Inv-loop μ-loop
+fill-row-requires c κs = search needs
 
-byte-sum-requires : tie.Need-byte-sum-requires Inv-loop μ-loop
-byte-sum-requires c κs = ((cc), omega arith)
-
-mul-t : tie.Need-mul-t Inv-loop μ-loop
-mul-t c = search loops
-
-array-write-t : tie.Need-array-write-t Inv-loop μ-loop
-array-write-t c = search loops
-
-add-e : tie.Need-add-e Inv-loop μ-loop
-add-e c = search loops
+add-k : tie.Need-add-k Inv-loop μ-loop
+add-k c = search needs
 
 loop-less : tie.Need-loop-less Inv-loop μ-loop
-loop-less c = search loops
+loop-less c = search needs
 
 loop-again : tie.Need-loop-again Inv-loop μ-loop
-unfolding byteEntry
-loop-again c = search loops
+loop-again c = (omega arith, begun-to (256 * (c .before .before .before .before .loop .k + 1)) (c .fill-row .ensures) (omega arith))
 
 returns : tie.Need-returns Inv-loop μ-loop
-returns c = search loops
+returns c = begun-all (begun-to 4096 (c .before .loop .inv .1) (omega (arith, c .before .loop .inv .0, c .loop-test .left)))
 
 pub byte-table-spec : {M : Type 1} → statement M
 byte-table-spec =
@@ -52,11 +47,8 @@ byte-table-spec =
     μ-loop
     column-table-requires
     loop-holds
-    cast-byte-sum
-    byte-sum-requires
-    mul-t
-    array-write-t
-    add-e
+    fill-row-requires
+    add-k
     loop-less
     loop-again
     returns)
