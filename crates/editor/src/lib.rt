@@ -134,12 +134,12 @@ fn stretch_to(b: usize) -> usize
 
 // ---- number 9
 
-// Whether a word has checks that are not zero.
-fn fails_check(t: &[u16; 4096], v: [u8; 16]) -> bool
+// Whether word w has checks that are not zero.
+fn fails_check(t: &[u16; 4096], capture: &[u8], w: usize) -> bool
     requires { ⌜ now t ≡ byteTable ⌝ }
-    ensures { λ r. ⌜ r ≡ not (eqb (checksOf v) 0) ⌝ }
+    ensures { λ r. ⌜ r ≡ not (eqb (checksOf (wordIn (now (capture .entry)) w)) 0) ⌝ }
 {
-    hamming::checks_by(t, v) != 0
+    line::checks_in(t, capture, w) != 0
 }
 
 // Whether word w is to be listed and fails a check.
@@ -150,7 +150,7 @@ fn is_refused(n: usize, b: usize, capture: &[u8], t: &[u16; 4096], w: usize) -> 
     if !is_listed(n, b, w) {
         return false;
     }
-    fails_check(t, line::word_in(capture, w))
+    fails_check(t, capture, w)
 }
 
 // The first such word, or the number of words.

@@ -3,11 +3,13 @@ use Prim.Native.Nat.{ℕ, _+_, _-_, _*_, _/_, _%_, _≤_, _<_}
 use mathlib.Core.Path.{_≡_, refl, sym, ap, ap₂, _∙_}
 use mathlib.Core.List.{List}
 use native.Mathlib.Omega.{arith}
+use lib.Dec.{lit<}
 use lib.ListN.{length, getD}
-use Rattle.bits.specs.Bits.{tabulate}
-use Rattle.bits.proofs.Lists.{length-tabulate, getD-tabulate, tabulate-ext, is-table}
+use Rattle.bits.specs.Bits.{tabulate, Bytes}
+use Rattle.bits.proofs.Common.{by-bound}
+use Rattle.bits.proofs.Lists.{length-tabulate, getD-tabulate, getD-past, tabulate-ext, is-table}
 use Rattle.line.specs.Sizes.{captureLength, words}
-use Rattle.line.specs.Words.{symbolPlace, wordAt, symbolAt, laid, wordIn}
+use Rattle.line.specs.Words.{symbolPlace, wordAt, symbolAt, laid, symbolOf, wordIn}
 
 -- ---- places: the word and the symbol of a byte, and the byte of a symbol of a word
 
@@ -55,6 +57,12 @@ length-word cap w = length-tabulate 16 (λ k. getD cap (symbolPlace w k) 0)
 pub word-symbol : (cap : List ℕ) (w k : ℕ) → k < 16 → getD (wordIn cap w) k 0 ≡ getD cap (symbolPlace w k) 0
 unfolding wordIn
 word-symbol cap w k h = getD-tabulate 0 16 (λ j. getD cap (symbolPlace w j) 0) k h
+
+-- its bytes are bytes
+pub word-bytes : (cap : List ℕ) (w : ℕ) → Bytes cap → Bytes (wordIn cap w)
+unfolding wordIn
+word-bytes cap w h k =
+    by-bound 16 k (λ l. rw (getD-tabulate 0 16 (symbolOf cap w) k l) (h (symbolPlace w k))) (λ l. rw (getD-past 0 16 (symbolOf cap w) k l) (lit< tt))
 
 laid-at : (N : ℕ) (W : ℕ → List ℕ) (b : ℕ) → b < captureLength N → getD (laid N W) b 0 ≡ getD (W (wordAt b)) (symbolAt b) 0
 unfolding laid

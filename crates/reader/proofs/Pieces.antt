@@ -20,7 +20,7 @@ use Rattle.hamming.specs.declared.Repaired.{Repaired}
 use Rattle.hamming.specs.Repair.{repairOf}
 use Rattle.hamming.proofs.Repairs.{none-kept}
 use Rattle.hamming.specs.Code.{checksOf}
-use Rattle.line.specs.Words.{symbolPlace, symbolOf, wordIn}
+use Rattle.line.specs.Words.{wordIn}
 use Rattle.reader.specs.Read.{repaired}
 
 -- the first nine bits of b
@@ -83,11 +83,6 @@ unfolding repaired
 word-of cap w r e = ap (λ (x : Repaired). x .word) e
 
 -- ---- words whose checks are known
-
-pub word-bytes : (cap : List ℕ) (w : ℕ) → Bytes cap → Bytes (wordIn cap w)
-unfolding wordIn
-word-bytes cap w h k =
-    by-bound 16 k (λ l. rw (getD-tabulate 0 16 (symbolOf cap w) k l) (h (symbolPlace w k))) (λ l. rw (getD-past 0 16 (symbolOf cap w) k l) (lit< tt))
 
 -- checks zero: the word stays
 pub word-kept : (cap : List ℕ) (w : ℕ) → checksOf (wordIn cap w) ≡ 0 → wordIn cap w ≡ repaired cap w

@@ -3,26 +3,24 @@ use Prim.Native.Nat.{ℕ}
 use mathlib.Core.Path.{ap, _∙_}
 use mathlib.Core.Bool.{not}
 use lib.Dec.{eqb}
-use lib.ListN.{getD}
 use denote.Ref.{now}
-use mir.Val.{Fits}
-use mir.Syntax.{w8}
 use Rattle.hamming.proofs.Tabled.{by-checks}
+use Rattle.line.specs.Words.{wordIn}
+use Rattle.line.proofs.WordLaws.{word-bytes}
 use borrow.Author.Needs.{needs}
 use Rattle.editor.proofs.fails_check.Statement.{statement}
 use Rattle.editor.proofs.fails_check.Tie as tie
-use Rattle.editor.proofs.fails_check.Reads as reads
-use Rattle.editor.proofs.fails_check.Lts as lts
-use Rattle.hamming.proofs.checks_by.Reads as checks-by-reads
 
-checks-by-requires : tie.Need-checks-by-requires
-checks-by-requires c κs = search needs
+checks-in-requires : tie.Need-checks-in-requires
+checks-in-requires c κs = search needs
 
 returns : tie.Need-returns
 returns c =
-    let a = c .before .args in
+    let s = c .before .before in
+    let a = s .args in
+    let cap = now (a .capture) in
     ap (λ (x : ℕ). not (eqb x 0))
-    (c .checks-by .ensures ∙ by-checks (now (a .t)) (a .v) (c .before .pre) (λ k. let x : Fits w8 (getD (a .v) k 0) = search needs in x .fits))
+    (c .checks-in .ensures ∙ by-checks (now (a .t)) (wordIn cap (a .w)) (s .pre) (word-bytes cap (a .w) (λ k. c .before .shared-slice-known .given k .fits)))
 
 pub fails-check-spec : {M : Type 1} → statement M
-fails-check-spec = tie.close (tie.spec checks-by-requires returns)
+fails-check-spec = tie.close (tie.spec checks-in-requires returns)
