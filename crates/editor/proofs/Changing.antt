@@ -3,6 +3,7 @@ use Prim.Native.Nat.{ℕ, _+_, _-_, _*_, _/_, _%_, _≤_, _<_}
 use mathlib.Core.Bool.{true, false}
 use mathlib.Core.Path.{_≡_, sym, ap, _∙_}
 use mathlib.Core.List.{List}
+use native.Mathlib.Nat.{add-zero}
 use native.Mathlib.Omega.{arith}
 use lib.Dec.{lit<}
 use lib.Pow.{pow-pos}
@@ -13,21 +14,27 @@ use Rattle.bits.proofs.Numbers.{num-zero, num-lt}
 use Rattle.bits.proofs.Packing.{bitOf-at, bitOf-packs, length-packs}
 use Rattle.crc.specs.Crc.{remOf, shiftN}
 use Rattle.crc.proofs.Linear.{alone}
-use Rattle.scrambler.specs.Scrambler.{o, frameBytes}
+use Rattle.scrambler.specs.Scrambler.{o, period}
 use Rattle.scrambler.proofs.Rule.{o-lt}
-use Rattle.line.specs.Sizes.{blockBits, infoBits, fecBits, fecBlocks, superBits, elementBits, superElements, fecElements}
+use Rattle.scrambler.proofs.Period.{within-period}
+use Rattle.line.specs.Sizes.{blockBits, infoBits, fecBits, fecBlocks, elementBits, superElements, fecElements}
 use Rattle.line.specs.Frames.{superFrom, fecFrom}
 use Rattle.line.specs.Slots.{slotOf}
 use Rattle.line.specs.Words.{symbolPlace, wordIn, elementFrom, superIn, fecIn}
 use Rattle.line.proofs.WordLaws.{word-symbol}
 use Rattle.editor.specs.Edit.{blockFrom, inBlock, replaced, change, crcChange, elementFec, elementLocal}
+use Rattle.editor.specs.Parts.{onePeriod}
 use Rattle.editor.proofs.Touching.{block-in, block-before, block-past}
 
 -- ---- what is read
 
--- the sequence, from the bytes that were made once
-pub sequence-bit : (scr : List ℕ) (k : ℕ) → scr ≡ pack frameBytes o → k < superBits → bitAt scr k ≡ o k
-sequence-bit scr k e h = ap (λ (s : List ℕ). bitAt s k) e ∙ bitOf-packs 8 frameBytes o k o-lt h
+-- the sequence, from the one period that was made: bit k, and the bits from there on
+pub sequence-from : (scr : List ℕ) (k i : ℕ) → scr ≡ onePeriod → i < 128 → bitAt scr (k % period + i) ≡ o (k + i)
+sequence-from scr k i e h =
+    ap (λ (s : List ℕ). bitAt s (k % period + i)) e ∙ bitOf-packs 8 8208 o (k % period + i) o-lt (omega arith) ∙ within-period k i
+
+pub sequence-bit : (scr : List ℕ) (k : ℕ) → scr ≡ onePeriod → bitAt scr (k % period) ≡ o k
+sequence-bit scr k e = ap (bitAt scr) (sym (add-zero (k % period))) ∙ sequence-from scr k 0 e (omega arith) ∙ ap o (add-zero k)
 
 -- bit j of word w, from the capture
 pub word-bit : (cap : List ℕ) (w j : ℕ) → j < 128 → bitAt cap (8 * symbolPlace w (j / 8) + j % 8) ≡ bitAt (wordIn cap w) j

@@ -7,7 +7,7 @@ use native.Mathlib.Omega.{arith}
 use borrow.Author.Tests.{eq-eqb}
 use Rattle.bits.specs.Bits.{digit, bitAt, pack, from, added, Bits}
 use Rattle.bits.proofs.Packing.{bitOf-lt, bitOf-packs, packs-ext}
-use Rattle.scrambler.specs.Scrambler.{o, frameBytes}
+use Rattle.scrambler.specs.Scrambler.{o, period}
 use Rattle.hamming.specs.Code.{wordOf}
 use Rattle.hamming.proofs.Words.{coded-ext}
 use Rattle.line.specs.Sizes.{infoBits, crcBits, mbasBits, mbasFrom, parityFrom, fecBits, fecBlocks, elementBits, superElements, fecElements, infoElements}
@@ -18,8 +18,8 @@ use Rattle.line.proofs.FecLaws.{fields-info, fields-crc, fields-mbas, fields-pa
 use Rattle.line.proofs.FrameLaws.{element-fec}
 use Rattle.line.proofs.SlotLaws.{held, held-bit}
 use Rattle.editor.specs.Edit.{fecOf, inBlock, blockFrom, replaced, crcChange, newCrc, editedBits, editedFec, elementFec, elementLocal, listed, editedWord}
-use Rattle.editor.specs.Parts.{newInfoBit, newBit, newElement, parityElement, remade}
-use Rattle.editor.proofs.Changing.{sequence-bit, received-at}
+use Rattle.editor.specs.Parts.{newInfoBit, newBit, newElement, onePeriod, parityElement, remade}
+use Rattle.editor.proofs.Changing.{sequence-from, received-at}
 use Rattle.editor.proofs.Listing.{listed-holding, local-lt}
 
 -- ---- bits
@@ -194,14 +194,14 @@ made-whole b bits parity crc w old v h e =
     (λ i l. bitOf-packs 8 16 g i (parity-bits parity (elementIn w)) (omega arith) ∙ parity-new b bits parity crc (elementIn w) old i h)
 
 -- the two stretches of 128 bits added
-pub parity-sum : (parity scr : List ℕ) (e : ℕ) (u v : List ℕ) → scr ≡ pack frameBytes o → e % superElements < fecElements * fecBlocks → infoElements < elementLocal e
-    → u ≡ pack 16 (from (bitAt parity) (elementBits * elementLocal e - parityFrom)) → v ≡ pack 16 (from (bitAt scr) (elementBits * (e % superElements)))
+pub parity-sum : (parity scr : List ℕ) (e : ℕ) (u v : List ℕ) → scr ≡ onePeriod → infoElements < elementLocal e
+    → u ≡ pack 16 (from (bitAt parity) (elementBits * elementLocal e - parityFrom)) → v ≡ pack 16 (from (bitAt scr) (elementBits * (e % superElements) % period))
     → pack 16 (added (bitAt u) (bitAt v)) ≡ pack 16 (parityElement parity e)
 unfolding parityElement
-parity-sum parity scr e u v s h l p q =
+parity-sum parity scr e u v s l p q =
     let a = elementBits * elementLocal e - parityFrom in
     let k = elementBits * (e % superElements) in
     packs-ext 8 16 (added (bitAt u) (bitAt v)) (λ i. (bitAt parity (a + i) + o (k + i)) % 2)
     (λ i m. ap₂ (λ (x y : ℕ). (x + y) % 2)
     (ap (λ (s : List ℕ). bitAt s i) p ∙ bitOf-packs 8 16 (from (bitAt parity) a) i (λ j. bitOf-lt 8 parity (a + j)) m)
-    (ap (λ (s : List ℕ). bitAt s i) q ∙ bitOf-packs 8 16 (from (bitAt scr) k) i (λ j. bitOf-lt 8 scr (k + j)) m ∙ sequence-bit scr (k + i) s (omega arith)))
+    (ap (λ (s : List ℕ). bitAt s i) q ∙ bitOf-packs 8 16 (from (bitAt scr) (k % period)) i (λ j. bitOf-lt 8 scr (k % period + j)) m ∙ sequence-from scr k i s m))

@@ -11,7 +11,7 @@ use Rattle.bits.specs.Loops.{upto, count}
 use Rattle.answer.specs.Numbers.{outsideSet, wrongLength}
 use Rattle.answer.specs.Rows.{done, refused, bufferPlace}
 use Rattle.answer.specs.declared.Answer.{Answer}
-use Rattle.scrambler.specs.Scrambler.{o, frameBytes}
+use Rattle.scrambler.specs.Scrambler.{o}
 use Rattle.hamming.specs.Code.{coded}
 use Rattle.hamming.specs.Lent.{byteTable, tailTable}
 use Rattle.line.specs.Sizes.{crcBits, parityFrom, parityBytes, fecBlocks, elementBits, superElements, fecElements, captureLength}
@@ -89,10 +89,13 @@ putSymbol w v k cap = set cap (symbolPlace w k) (getD v k 0)
 unfoldable pub putWord : List ℕ → ℕ → List ℕ → List ℕ
 putWord cap w v = upto (putSymbol w v) cap 16
 
--- ---- what is made once and lent: the scrambler's sequence and the code's two tables
+-- ---- what is made once and lent: one period of the scrambler's sequence, and a word's bits more; and the code's two tables
+
+abbrev pub onePeriod : List ℕ
+onePeriod = pack 8208 o
 
 pub record Lent (scr t tails : List ℕ) : Type 0 where
-  pub sequence : scr ≡ pack frameBytes o
+  pub sequence : scr ≡ onePeriod
   pub checks : t ≡ byteTable
   pub closing : tails ≡ tailTable
 

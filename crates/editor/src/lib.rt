@@ -8,14 +8,14 @@ ghost use lib.ListN.{length};
 ghost use Rattle.bits.specs.Bits.{bitAt, byteOf, pack};
 ghost use Rattle.bits.specs.Loops.{first};
 ghost use Rattle.answer.specs.Outcomes.{Outcome};
-ghost use Rattle.scrambler.specs.Scrambler.{o, frameBytes};
+ghost use Rattle.scrambler.specs.Scrambler.{o};
 ghost use Rattle.hamming.specs.Code.{checksOf};
 ghost use Rattle.hamming.specs.Lent.{byteTable};
-ghost use Rattle.line.specs.Sizes.{blockBits, fecBits, fecBlocks, superBits, elementBits, superElements, fecElements, infoElements, captureLength, words};
+ghost use Rattle.line.specs.Sizes.{blockBits, fecBits, fecBlocks, elementBits, superElements, fecElements, infoElements, captureLength, words};
 ghost use Rattle.line.specs.Slots.{elementIn};
 ghost use Rattle.line.specs.Words.{symbolPlace, wordIn, fecIn};
 ghost use Rattle.editor.specs.Edit.{blocksOf, listLength, fecOf, blockFrom, change, crcChange, elementLocal, touches, listed, fails, spareSet, editAnswer, editLeaves};
-ghost use Rattle.editor.specs.Parts.{judged, Accepted, firstElement, stretchFrom, stretchTo, newInfoBit, newBit, newElement, parityElement, remade, putWord, Lent, Passing, Turned};
+ghost use Rattle.editor.specs.Parts.{judged, Accepted, onePeriod, firstElement, stretchFrom, stretchTo, newInfoBit, newBit, newElement, parityElement, remade, putWord, Lent, Passing, Turned};
 
 // Replaces client block `block` of a capture of n super frames by the 257 bits of `bits` and its FEC block's parity by `parity`, changes the
 // CRC by what the changed bits leave, and lists the words that hold any of these. The count is how many were listed.
@@ -192,18 +192,18 @@ fn word_bit(capture: &[u8], w: usize, j: usize) -> u8
 }
 
 // Bit i of FEC block t of a capture, descrambled.
-fn received_bit(capture: &[u8], scr: &[u8; 163268], t: usize, i: usize) -> u8
-    requires { ⌜ (now scr ≡ pack frameBytes o) × (t < 40) × (i < fecBits) ⌝ }
+fn received_bit(capture: &[u8], scr: &[u8; 8208], t: usize, i: usize) -> u8
+    requires { ⌜ (now scr ≡ onePeriod) × (t < 40) × (i < fecBits) ⌝ }
     ensures { λ r. ⌜ r ≡ fecIn (wordIn (now (capture .entry))) t i ⌝ }
 {
     let k = 261086 * (t % 5) + i;
     let w = line::slot((10976 * (t / 5) + k / 119) as u32);
-    add(word_bit(capture, w, k % 119), bits::bit_at(scr, k))
+    add(word_bit(capture, w, k % 119), bits::bit_at(scr, k % 65535))
 }
 
 // Bit j of client block b's change: what was received, and what replaces it.
-fn changed_bit(b: usize, bits: &[u8], capture: &[u8], scr: &[u8; 163268], j: usize) -> u8
-    requires { ⌜ (now scr ≡ pack frameBytes o) × (b < 38080) × (j < blockBits) ⌝ }
+fn changed_bit(b: usize, bits: &[u8], capture: &[u8], scr: &[u8; 8208], j: usize) -> u8
+    requires { ⌜ (now scr ≡ onePeriod) × (b < 38080) × (j < blockBits) ⌝ }
     ensures { λ r. ⌜ r ≡ change b (now (bits .entry)) (fecIn (wordIn (now (capture .entry))) (fecOf b)) (blockFrom b + j) ⌝ }
 {
     add(
@@ -213,8 +213,8 @@ fn changed_bit(b: usize, bits: &[u8], capture: &[u8], scr: &[u8; 163268], j: usi
 }
 
 // What the changed bits leave: the change of the CRC. Before the block nothing changes, and what follows it only shifts.
-fn crc_change(b: usize, bits: &[u8], capture: &[u8], scr: &[u8; 163268]) -> u32
-    requires { ⌜ (now scr ≡ pack frameBytes o) × (b < 38080) ⌝ }
+fn crc_change(b: usize, bits: &[u8], capture: &[u8], scr: &[u8; 8208]) -> u32
+    requires { ⌜ (now scr ≡ onePeriod) × (b < 38080) ⌝ }
     ensures { λ r. ⌜ r ≡ crcChange b (now (bits .entry)) (fecIn (wordIn (now (capture .entry))) (fecOf b)) ⌝ }
 {
     let mut r: u32 = 0;
@@ -227,8 +227,8 @@ fn crc_change(b: usize, bits: &[u8], capture: &[u8], scr: &[u8; 163268]) -> u32
 // ---- a word made anew
 
 // The new bit at place p of the information and place k of the super frame, where `kept` was received.
-fn new_info_bit(b: usize, bits: &[u8], scr: &[u8; 163268], p: usize, k: usize, kept: u8) -> u8
-    requires { ⌜ (now scr ≡ pack frameBytes o) × (k < superBits) ⌝ }
+fn new_info_bit(b: usize, bits: &[u8], scr: &[u8; 8208], p: usize, k: usize, kept: u8) -> u8
+    requires { ⌜ now scr ≡ onePeriod ⌝ }
     ensures { λ r. ⌜ r ≡ newInfoBit b (now (bits .entry)) p k kept ⌝ }
 {
     let from = 257 * (b % 952);
@@ -238,7 +238,7 @@ fn new_info_bit(b: usize, bits: &[u8], scr: &[u8; 163268], p: usize, k: usize, k
     if from + 257 <= p {
         return kept;
     }
-    add(bits::bit_at(bits, p - from), bits::bit_at(scr, k))
+    add(bits::bit_at(bits, p - from), bits::bit_at(scr, k % 65535))
 }
 
 // The same anywhere in the FEC block: the MBAS stays, and the parity is replaced.
@@ -246,13 +246,13 @@ fn new_bit(
     b: usize,
     bits: &[u8],
     parity: &[u8],
-    scr: &[u8; 163268],
+    scr: &[u8; 8208],
     crc: u32,
     p: usize,
     k: usize,
     x: u8,
 ) -> u8
-    requires { ⌜ (now scr ≡ pack frameBytes o) × (k < superBits) ⌝ }
+    requires { ⌜ now scr ≡ onePeriod ⌝ }
     ensures { λ r. ⌜ r ≡ newBit b (now (bits .entry)) (now (parity .entry)) crc p k x ⌝ }
 {
     if p < 244664 {
@@ -264,7 +264,10 @@ fn new_bit(
     if p < 244702 {
         return x;
     }
-    add(bits::bit_at(parity, p - 244702), bits::bit_at(scr, k))
+    add(
+        bits::bit_at(parity, p - 244702),
+        bits::bit_at(scr, k % 65535),
+    )
 }
 
 // Bit i of element e made anew, where old was received.
@@ -272,13 +275,13 @@ fn new_element_bit(
     b: usize,
     bits: &[u8],
     parity: &[u8],
-    scr: &[u8; 163268],
+    scr: &[u8; 8208],
     crc: u32,
     e: usize,
     old: &[u8],
     i: usize,
 ) -> u8
-    requires { ⌜ (now scr ≡ pack frameBytes o) × (e % superElements < fecElements * fecBlocks) × (i < 128) ⌝ }
+    requires { ⌜ (now scr ≡ onePeriod) × (e % superElements < fecElements * fecBlocks) × (i < 128) ⌝ }
     ensures { λ r. ⌜ r ≡ newElement b (now (bits .entry)) (now (parity .entry)) crc e (now (old .entry)) i ⌝ }
 {
     let l = e % 10976;
@@ -299,13 +302,13 @@ fn new_byte(
     b: usize,
     bits: &[u8],
     parity: &[u8],
-    scr: &[u8; 163268],
+    scr: &[u8; 8208],
     crc: u32,
     e: usize,
     old: &[u8],
     j: usize,
 ) -> u8
-    requires { ⌜ (now scr ≡ pack frameBytes o) × (e % superElements < fecElements * fecBlocks) × (j < 16) ⌝ }
+    requires { ⌜ (now scr ≡ onePeriod) × (e % superElements < fecElements * fecBlocks) × (j < 16) ⌝ }
     ensures { λ r. ⌜ r ≡ byteOf (newElement b (now (bits .entry)) (now (parity .entry)) crc e (now (old .entry))) j ⌝ }
 {
     let mut acc: u32 = 0;
@@ -320,12 +323,12 @@ fn new_element(
     b: usize,
     bits: &[u8],
     parity: &[u8],
-    scr: &[u8; 163268],
+    scr: &[u8; 8208],
     crc: u32,
     e: usize,
     old: &[u8],
 ) -> [u8; 16]
-    requires { ⌜ (now scr ≡ pack frameBytes o) × (e % superElements < fecElements * fecBlocks) ⌝ }
+    requires { ⌜ (now scr ≡ onePeriod) × (e % superElements < fecElements * fecBlocks) ⌝ }
     ensures { λ r. ⌜ r ≡ pack 16 (newElement b (now (bits .entry)) (now (parity .entry)) crc e (now (old .entry))) ⌝ }
 {
     let mut r = [0u8; 16];
@@ -336,13 +339,16 @@ fn new_element(
 }
 
 // An element that is all parity, in one piece.
-fn parity_element(parity: &[u8], scr: &[u8; 163268], e: usize) -> [u8; 16]
-    requires { ⌜ (now scr ≡ pack frameBytes o) × (e % superElements < fecElements * fecBlocks) × (infoElements < elementLocal e) ⌝ }
+fn parity_element(parity: &[u8], scr: &[u8; 8208], e: usize) -> [u8; 16]
+    requires { ⌜ (now scr ≡ onePeriod) × (e % superElements < fecElements * fecBlocks) × (infoElements < elementLocal e) ⌝ }
     ensures { λ r. ⌜ r ≡ pack 16 (parityElement (now (parity .entry)) e) ⌝ }
 {
     let l = e % 10976;
     let at = 119 * (l % 2194) - 244702;
-    line::sum(bits::word_from(parity, at), bits::word_from(scr, 119 * l))
+    line::sum(
+        bits::word_from(parity, at),
+        bits::word_from(scr, 119 * l % 65535),
+    )
 }
 
 // Word w made anew, where old was received.
@@ -350,7 +356,7 @@ fn new_word(
     b: usize,
     bits: &[u8],
     parity: &[u8],
-    scr: &[u8; 163268],
+    scr: &[u8; 8208],
     t: &[u16; 4096],
     tails: &[u16; 512],
     crc: u32,
@@ -385,7 +391,7 @@ fn turn(
     b: usize,
     bits: &[u8],
     parity: &[u8],
-    scr: &[u8; 163268],
+    scr: &[u8; 8208],
     t: &[u16; 4096],
     tails: &[u16; 512],
     crc: u32,
@@ -413,7 +419,7 @@ fn rewrite(
     b: usize,
     bits: &[u8],
     parity: &[u8],
-    scr: &[u8; 163268],
+    scr: &[u8; 8208],
     t: &[u16; 4096],
     tails: &[u16; 512],
     crc: u32,
@@ -443,7 +449,7 @@ fn replace(
     requires { ⌜ (now t ≡ byteTable) × Accepted n b (now bits) (now parity) (now capture) (now list) ⌝ }
     ensures { λ r. ⌜ Passing n b (now (bits .entry)) (now (parity .entry)) (now (capture .entry)) (now (list .entry)) (words n) (now (capture .exit)) (now (list .exit)) r ⌝ }
 {
-    let mut scr = [0u8; 163268];
+    let mut scr = [0u8; 8208];
     scrambler::fill(&mut scr);
     let tails = hamming::tail_table();
     let crc = crc_change(b, bits, capture, &scr);

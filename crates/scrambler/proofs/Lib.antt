@@ -2,4 +2,5 @@
 pub mod Rule
 pub mod Stepping
 pub mod Strides
+pub mod Period
 pub mod Unique

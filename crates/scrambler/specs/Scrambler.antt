@@ -20,3 +20,7 @@ hist (suc n) = push (hist n)
 -- the bit that is added to bit n of a super frame
 unfoldable pub o : ℕ → ℕ
 o n = getD (hist n) 15 0
+
+-- after so many bits it repeats (`again` of proofs/Period.antt)
+abbrev pub period : ℕ
+period = 65535

@@ -44,7 +44,7 @@ returns-3 c =
     rw (block-in (s .args .b) (s .args .p) (t .before .if1 .left) (t .if2 .left))
     (c .add .ensures
     ∙ ap₂ (λ (x y : ℕ). (x + y) % 2) (c .before .before .before .bit-at .ensures)
-    (c .before .bit-at2 .ensures ∙ sequence-bit (now (s .args .scr)) (s .args .k) (s .pre .0) (s .pre .1)))
+    (c .before .bit-at2 .ensures ∙ sequence-bit (now (s .args .scr)) (s .args .k) (s .pre)))
 
 pub new-info-bit-spec : {M : Type 1} → statement M
 new-info-bit-spec =

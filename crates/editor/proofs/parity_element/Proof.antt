@@ -37,7 +37,7 @@ returns c =
     let s = c .before .before .before .before .before in
     let a = s .args in
     c .sum .ensures
-    ∙ parity-sum (now (a .parity)) (now (a .scr)) (a .e) _ _ (s .pre .0) (s .pre .1) (s .pre .2) (c .before .before .before .word-from .ensures) (c .before .word-from2 .ensures)
+    ∙ parity-sum (now (a .parity)) (now (a .scr)) (a .e) _ _ (s .pre .0) (s .pre .2) (c .before .before .before .word-from .ensures) (c .before .word-from2 .ensures)
 
 pub parity-element-spec : {M : Type 1} → statement M
 parity-element-spec =

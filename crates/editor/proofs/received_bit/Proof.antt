@@ -56,7 +56,7 @@ returns c =
     c .add .ensures
     ∙ ap₂ (λ (x y : ℕ). (x + y) % 2)
     (w .word-bit .ensures ∙ ap (λ (x : ℕ). bitAt (wordIn (now (a .capture)) x) (k % 119)) (w .before .slot .ensures))
-    (c .before .bit-at .ensures ∙ sequence-bit (now (a .scr)) k (s .pre .0) (omega arith))
+    (c .before .bit-at .ensures ∙ sequence-bit (now (a .scr)) k (s .pre .0))
     ∙ received (wordIn (now (a .capture))) (a .t) (a .i) k (10976 * (a .t / 5) + k / 119) refl refl
 
 pub received-bit-spec : {M : Type 1} → statement M
