@@ -29,7 +29,7 @@ unfolding byteSum
 byte-sum-xor k x y =
     taken-xor (8 * k) (digit 8 x) (digit 8 y) (digit 8 (bitXor x y)) 8 (digit-lt 8 x) (digit-lt 8 y) (λ j h. digit-xor 8 x y j)
 
--- no bit adds nothing, and one bit adds its column
+-- without bits nothing is added, and one bit adds its column
 byte-sum-none : (k : ℕ) → byteSum k 0 ≡ 0
 byte-sum-none k = byte-sum-xor k 0 0 ∙ xor-self (byteSum k 0)
 
@@ -47,8 +47,8 @@ from-top = agree (λ j. 2 ^ j) (λ j. 128 / 2 ^ (7 - j)) 8 tt
 -- so a bit above those of r adds its column to what r adds
 pub byte-sum-more : (k j r : ℕ) → j < 8 → r < 2 ^ j → byteSum k (2 ^ j + r) ≡ bitXor (byteSum k r) (columnOf (8 * k + (7 - j)))
 byte-sum-more k j r h l =
-    let e : 2 ^ j + r ≡ bitXor (2 ^ j) r = sym (ap (λ (x : ℕ). bitXor x r) (sym (one-mul (2 ^ j))) ∙ xor-shifted 1 j r l ∙ ap (λ (x : ℕ). x + r) (one-mul (2 ^ j))) in
-    ap (byteSum k) e ∙ byte-sum-xor k (2 ^ j) r ∙ xor-comm (byteSum k (2 ^ j)) (byteSum k r)
+    let e : bitXor (2 ^ j) r ≡ 2 ^ j + r = rw one-mul at (xor-shifted 1 j r l) in
+    ap (byteSum k) (sym e) ∙ byte-sum-xor k (2 ^ j) r ∙ xor-comm (byteSum k (2 ^ j)) (byteSum k r)
     ∙ ap (bitXor (byteSum k r)) (ap (byteSum k) (from-top j h) ∙ byte-sum-one k (7 - j) (omega arith))
 
 -- ---- entries of the table
@@ -57,10 +57,11 @@ entry-of : (k x : ℕ) → x < 256 → byteEntry (256 * k + x) ≡ byteSum k x
 unfolding byteEntry
 entry-of k x h = ap₂ byteSum (omega arith) (omega arith)
 
--- the first of a row, and the doubling in it
+-- the first of a row
 row-first : (k : ℕ) → byteEntry (256 * k) ≡ 0
 row-first k = ap byteEntry (sym (add-zero (256 * k))) ∙ entry-of k 0 (omega arith) ∙ byte-sum-none k
 
+-- the doubling in a row: n goes from 1 to 128
 pub row-room : (j n : ℕ) → j < 8 → n ≡ 2 ^ j → n ≤ 128
 row-room j n h p = rw p (pow-mono {i = j} {j = 7} (omega arith))
 

@@ -7,10 +7,6 @@ use Rattle.hamming.specs.Doubling.{Begun}
 use Rattle.hamming.proofs.Doubling.{begun-none, begun-to, begun-all}
 use Rattle.hamming.proofs.byte_table.Statement.{statement}
 use Rattle.hamming.proofs.byte_table.Tie as tie
-use Rattle.hamming.proofs.byte_table.Reads as reads
-use Rattle.hamming.proofs.byte_table.Lts as lts
-use Rattle.hamming.proofs.column_table.Reads as column-table-reads
-use Rattle.hamming.proofs.fill_row.Reads as fill-row-reads
 
 abbrev Inv-loop : tie.InvT-loop
 Inv-loop c t₀ k₀ t k = (k ≤ 16) × Begun (256 * k) t

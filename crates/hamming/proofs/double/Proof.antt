@@ -1,15 +1,11 @@
 -- `hamming::double` meets its contract: what is begun goes on by one entry at a turn. Assumes nothing.
 use Prim.Native.Nat.{_+_, _-_, _*_, _≤_}
-use mathlib.Core.Path.{sym, ap, _∙_}
 use native.Mathlib.Omega.{arith}
 use borrow.Author.Needs.{needs}
-use lib.Bits.{bitXor}
 use Rattle.hamming.specs.Doubling.{Begun}
 use Rattle.hamming.proofs.Doubling.{begun-to, begun-double}
 use Rattle.hamming.proofs.double.Statement.{statement}
 use Rattle.hamming.proofs.double.Tie as tie
-use Rattle.hamming.proofs.double.Reads as reads
-use Rattle.hamming.proofs.double.Lts as lts
 
 abbrev Inv-loop : tie.InvT-loop
 Inv-loop t₀ at n c r₀ t r = (r ≤ n) × Begun (at + n + r) t

@@ -1,6 +1,6 @@
 -- `hamming::fill_row` meets its contract: before turn j the row has its first 2 ^ j entries. Assumes nothing.
 use Prim.Native.Nat.{ℕ, _+_, _-_, _*_, _^_, _≤_}
-use mathlib.Core.Path.{_≡_, refl, sym, ap, _∙_}
+use mathlib.Core.Path.{_≡_, refl, ap, _∙_}
 use mathlib.Core.List.{List}
 use native.Mathlib.Omega.{arith}
 use borrow.Author.Needs.{needs}
@@ -10,9 +10,6 @@ use Rattle.hamming.specs.Doubling.{Begun}
 use Rattle.hamming.proofs.Doubling.{begun-to, begun-row, row-room, row-next, row-doubles}
 use Rattle.hamming.proofs.fill_row.Statement.{statement}
 use Rattle.hamming.proofs.fill_row.Tie as tie
-use Rattle.hamming.proofs.fill_row.Reads as reads
-use Rattle.hamming.proofs.fill_row.Lts as lts
-use Rattle.hamming.proofs.double.Reads as double-reads
 
 abbrev Inv-loop : tie.InvT-loop
 Inv-loop c k t₀ n₀ j₀ t n j = (j ≤ 8) × (n ≡ 2 ^ j) × Begun (256 * k + n) t
