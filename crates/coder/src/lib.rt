@@ -92,8 +92,8 @@ fn block_crc(table: &[u32; 256], info: &[u8], t: usize) -> u32
     requires { ⌜ (now table ≡ entries) × (30583 * (t + 1) ≤ length (now info)) × (t < 40) ⌝ }
     ensures { λ r. ⌜ r ≡ blockCrc (now (info .entry)) t ⌝ }
 {
-    let from = 30583 * t;
-    crc::crc(table, &info[from..from + 30583])
+    let from = line::INFO_BYTES * t;
+    crc::crc(table, &info[from..from + line::INFO_BYTES])
 }
 
 // All words, a group of eight at a time.
@@ -160,7 +160,7 @@ fn word(
     }
     let e = line::element_in(w);
     let plain = plain_element(n, m0, info, parity, crcs, e);
-    let mask = bits::word_from(sequence, 119 * (e % 10976));
+    let mask = bits::word_from(sequence, line::ELEMENT_BITS * (e % line::SUPER_ELEMENTS));
     hamming::encode_by(table, tails, line::sum(plain, mask))
 }
 
@@ -176,19 +176,27 @@ fn plain_element(
     requires { ⌜ (n < 9) × Crcs n (now info) (now crcs) × (e < 10976 * n) ⌝ }
     ensures { λ r. ⌜ Agree (bitAt r) (plainBit (fecBit m0 (now (info .entry)) (now (parity .entry))) e) ⌝ }
 {
-    let l = e % 10976;
+    let l = e % line::SUPER_ELEMENTS;
     if 10970 <= l {
         return [0u8; 16];
     }
-    let t = 5 * (e / 10976) + l / 2194;
-    let m = l % 2194;
-    if m < 2056 {
-        return bits::word_from(info, 244664 * t + 119 * m);
+    let t = 5 * (e / line::SUPER_ELEMENTS) + l / line::FEC_ELEMENTS;
+    let m = l % line::FEC_ELEMENTS;
+    if m < line::INFO_ELEMENTS {
+        return bits::word_from(info, line::INFO_BITS * t + line::ELEMENT_BITS * m);
     }
-    if m == 2056 {
-        return tail_element(crcs[t], line::mbas(m0, t as u64), parity, 16384 * t);
+    if m == line::INFO_ELEMENTS {
+        return tail_element(
+            crcs[t],
+            line::mbas(m0, t as u64),
+            parity,
+            line::PARITY_BITS * t,
+        );
     }
-    bits::word_from(parity, 16384 * t + (119 * (m - 2056) - 38))
+    bits::word_from(
+        parity,
+        line::PARITY_BITS * t + (line::ELEMENT_BITS * (m - line::INFO_ELEMENTS) - 38),
+    )
 }
 
 // The element of a block's CRC and MBAS, with the parity from bit `at` on behind them.

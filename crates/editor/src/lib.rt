@@ -17,6 +17,15 @@ ghost use Rattle.line.specs.Words.{symbolPlace, wordIn, fecIn};
 ghost use Rattle.editor.specs.Edit.{blocksOf, listLength, fecOf, blockFrom, change, crcChange, elementLocal, touches, listed, fails, spareSet, editAnswer, editLeaves};
 ghost use Rattle.editor.specs.Parts.{judged, Accepted, onePeriod, firstElement, stretchFrom, stretchTo, newInfoBit, newBit, newElement, parityElement, remade, putWord, Lent, Passing, Turned};
 
+// One period of the scrambler's sequence, and a word's bits more, so that a word can be cut out anywhere.
+const PERIOD_BYTES: usize = 8208;
+
+// The bits of information behind an FEC block's first client block.
+const BEHIND_FIRST: usize = 244407;
+
+// From the first element of an FEC block on, so many words can hold one of its elements.
+const STRETCH: usize = 2674;
+
 // Replaces client block `block` of a capture of n super frames by the 257 bits of `bits` and its FEC block's parity by `parity`, changes the
 // CRC by what the changed bits leave, and lists the words that hold any of these. The count is how many were listed.
 pub fn edit(
@@ -88,8 +97,9 @@ fn holds_touched(b: usize, m: usize) -> bool
     requires { ⌜ m < fecElements ⌝ }
     ensures { λ r. ⌜ r ≡ touches b (elementBits * m) elementBits ⌝ }
 {
-    let from = 257 * (b % 952);
-    2056 <= m || (from / 119 <= m && m <= (from + 256) / 119)
+    let from = line::BLOCK_BITS * (b % line::CLIENT_BLOCKS);
+    line::INFO_ELEMENTS <= m
+        || (from / line::ELEMENT_BITS <= m && m <= (from + 256) / line::ELEMENT_BITS)
 }
 
 // The first element of client block b's FEC block.
@@ -97,7 +107,8 @@ fn first_element(b: usize) -> usize
     requires { ⌜ b < 38080 ⌝ }
     ensures { λ r. ⌜ r ≡ firstElement b ⌝ }
 {
-    10976 * (b / 952 / 5) + 2194 * (b / 952 % 5)
+    line::SUPER_ELEMENTS * (b / line::CLIENT_BLOCKS / 5)
+        + line::FEC_ELEMENTS * (b / line::CLIENT_BLOCKS % 5)
 }
 
 // Whether word w of n super frames is listed. Its element and 480 more is w and 32 times its row: filler stays below 480.
@@ -106,11 +117,11 @@ fn is_listed(n: usize, b: usize, w: usize) -> bool
     ensures { λ r. ⌜ r ≡ listed n b w ⌝ }
 {
     let x = w + 32 * (w % 16);
-    let first = first_element(b) + 480;
+    let first = first_element(b) + line::LONGEST_WAIT;
     if x < first {
         return false;
     }
-    if first + 2194 <= x {
+    if first + line::FEC_ELEMENTS <= x {
         return false;
     }
     holds_touched(b, x - first)
@@ -121,7 +132,7 @@ fn stretch_from(b: usize) -> usize
     requires { ⌜ b < 38080 ⌝ }
     ensures { λ r. ⌜ r ≡ stretchFrom b ⌝ }
 {
-    first_element(b) + 257 * (b % 952) / 119
+    first_element(b) + line::BLOCK_BITS * (b % line::CLIENT_BLOCKS) / line::ELEMENT_BITS
 }
 
 // Nor one from here on: none waits longer than 480 words.
@@ -129,7 +140,7 @@ fn stretch_to(b: usize) -> usize
     requires { ⌜ b < 38080 ⌝ }
     ensures { λ r. ⌜ r ≡ stretchTo b ⌝ }
 {
-    first_element(b) + 2674
+    first_element(b) + STRETCH
 }
 
 // ---- number 9
@@ -163,7 +174,7 @@ fn first_refused(n: usize, b: usize, capture: &[u8], t: &[u16; 4096]) -> usize
             return w;
         }
     }
-    10976 * n + 480
+    line::SUPER_ELEMENTS * n + line::LONGEST_WAIT
 }
 
 // ---- the change of the CRC
@@ -192,28 +203,36 @@ fn word_bit(capture: &[u8], w: usize, j: usize) -> u8
 }
 
 // Bit i of FEC block t of a capture, descrambled.
-fn received_bit(capture: &[u8], scr: &[u8; 8208], t: usize, i: usize) -> u8
+fn received_bit(capture: &[u8], scr: &[u8; PERIOD_BYTES], t: usize, i: usize) -> u8
     requires { ⌜ (now scr ≡ onePeriod) × (t < 40) × (i < fecBits) ⌝ }
     ensures { λ r. ⌜ r ≡ fecIn (wordIn (now (capture .entry))) t i ⌝ }
 {
-    let k = 261086 * (t % 5) + i;
-    let w = line::slot((10976 * (t / 5) + k / 119) as u32);
-    add(word_bit(capture, w, k % 119), bits::bit_at(scr, k % 65535))
+    let k = line::FEC_BITS * (t % 5) + i;
+    let w = line::slot((line::SUPER_ELEMENTS * (t / 5) + k / line::ELEMENT_BITS) as u32);
+    add(
+        word_bit(capture, w, k % line::ELEMENT_BITS),
+        bits::bit_at(scr, k % scrambler::PERIOD),
+    )
 }
 
 // Bit j of client block b's change: what was received, and what replaces it.
-fn changed_bit(b: usize, bits: &[u8], capture: &[u8], scr: &[u8; 8208], j: usize) -> u8
+fn changed_bit(b: usize, bits: &[u8], capture: &[u8], scr: &[u8; PERIOD_BYTES], j: usize) -> u8
     requires { ⌜ (now scr ≡ onePeriod) × (b < 38080) × (j < blockBits) ⌝ }
     ensures { λ r. ⌜ r ≡ change b (now (bits .entry)) (fecIn (wordIn (now (capture .entry))) (fecOf b)) (blockFrom b + j) ⌝ }
 {
     add(
-        received_bit(capture, scr, b / 952, 257 * (b % 952) + j),
+        received_bit(
+            capture,
+            scr,
+            b / line::CLIENT_BLOCKS,
+            line::BLOCK_BITS * (b % line::CLIENT_BLOCKS) + j,
+        ),
         bits::bit_at(bits, j),
     )
 }
 
 // What the changed bits leave: the change of the CRC. Before the block nothing changes, and what follows it only shifts.
-fn crc_change(b: usize, bits: &[u8], capture: &[u8], scr: &[u8; 8208]) -> u32
+fn crc_change(b: usize, bits: &[u8], capture: &[u8], scr: &[u8; PERIOD_BYTES]) -> u32
     requires { ⌜ (now scr ≡ onePeriod) × (b < 38080) ⌝ }
     ensures { λ r. ⌜ r ≡ crcChange b (now (bits .entry)) (fecIn (wordIn (now (capture .entry))) (fecOf b)) ⌝ }
 {
@@ -221,24 +240,30 @@ fn crc_change(b: usize, bits: &[u8], capture: &[u8], scr: &[u8; 8208]) -> u32
     for j in 0..257 {
         r = crc::take(r, changed_bit(b, bits, capture, scr, j));
     }
-    crc::shifted(r, (244407 - 257 * (b % 952)) as u64)
+    crc::shifted(
+        r,
+        (BEHIND_FIRST - line::BLOCK_BITS * (b % line::CLIENT_BLOCKS)) as u64,
+    )
 }
 
 // ---- a word made anew
 
 // The new bit at place p of the information and place k of the super frame, where `kept` was received.
-fn new_info_bit(b: usize, bits: &[u8], scr: &[u8; 8208], p: usize, k: usize, kept: u8) -> u8
+fn new_info_bit(b: usize, bits: &[u8], scr: &[u8; PERIOD_BYTES], p: usize, k: usize, kept: u8) -> u8
     requires { ⌜ now scr ≡ onePeriod ⌝ }
     ensures { λ r. ⌜ r ≡ newInfoBit b (now (bits .entry)) p k kept ⌝ }
 {
-    let from = 257 * (b % 952);
+    let from = line::BLOCK_BITS * (b % line::CLIENT_BLOCKS);
     if p < from {
         return kept;
     }
-    if from + 257 <= p {
+    if from + line::BLOCK_BITS <= p {
         return kept;
     }
-    add(bits::bit_at(bits, p - from), bits::bit_at(scr, k % 65535))
+    add(
+        bits::bit_at(bits, p - from),
+        bits::bit_at(scr, k % scrambler::PERIOD),
+    )
 }
 
 // The same anywhere in the FEC block: the MBAS stays, and the parity is replaced.
@@ -246,7 +271,7 @@ fn new_bit(
     b: usize,
     bits: &[u8],
     parity: &[u8],
-    scr: &[u8; 8208],
+    scr: &[u8; PERIOD_BYTES],
     crc: u32,
     p: usize,
     k: usize,
@@ -255,18 +280,18 @@ fn new_bit(
     requires { ⌜ now scr ≡ onePeriod ⌝ }
     ensures { λ r. ⌜ r ≡ newBit b (now (bits .entry)) (now (parity .entry)) crc p k x ⌝ }
 {
-    if p < 244664 {
+    if p < line::INFO_BITS {
         return new_info_bit(b, bits, scr, p, k, x);
     }
-    if p < 244696 {
-        return add(x, ((crc >> (31 - (p - 244664))) % 2) as u8);
+    if p < line::MBAS_FROM {
+        return add(x, ((crc >> (31 - (p - line::INFO_BITS))) % 2) as u8);
     }
-    if p < 244702 {
+    if p < line::PARITY_FROM {
         return x;
     }
     add(
-        bits::bit_at(parity, p - 244702),
-        bits::bit_at(scr, k % 65535),
+        bits::bit_at(parity, p - line::PARITY_FROM),
+        bits::bit_at(scr, k % scrambler::PERIOD),
     )
 }
 
@@ -275,7 +300,7 @@ fn new_element_bit(
     b: usize,
     bits: &[u8],
     parity: &[u8],
-    scr: &[u8; 8208],
+    scr: &[u8; PERIOD_BYTES],
     crc: u32,
     e: usize,
     old: &[u8],
@@ -284,15 +309,15 @@ fn new_element_bit(
     requires { ⌜ (now scr ≡ onePeriod) × (e % superElements < fecElements * fecBlocks) × (i < 128) ⌝ }
     ensures { λ r. ⌜ r ≡ newElement b (now (bits .entry)) (now (parity .entry)) crc e (now (old .entry)) i ⌝ }
 {
-    let l = e % 10976;
+    let l = e % line::SUPER_ELEMENTS;
     new_bit(
         b,
         bits,
         parity,
         scr,
         crc,
-        119 * (l % 2194) + i,
-        119 * l + i,
+        line::ELEMENT_BITS * (l % line::FEC_ELEMENTS) + i,
+        line::ELEMENT_BITS * l + i,
         bits::bit_at(old, i),
     )
 }
@@ -302,7 +327,7 @@ fn new_byte(
     b: usize,
     bits: &[u8],
     parity: &[u8],
-    scr: &[u8; 8208],
+    scr: &[u8; PERIOD_BYTES],
     crc: u32,
     e: usize,
     old: &[u8],
@@ -323,7 +348,7 @@ fn new_element(
     b: usize,
     bits: &[u8],
     parity: &[u8],
-    scr: &[u8; 8208],
+    scr: &[u8; PERIOD_BYTES],
     crc: u32,
     e: usize,
     old: &[u8],
@@ -339,15 +364,15 @@ fn new_element(
 }
 
 // An element that is all parity, in one piece.
-fn parity_element(parity: &[u8], scr: &[u8; 8208], e: usize) -> [u8; 16]
+fn parity_element(parity: &[u8], scr: &[u8; PERIOD_BYTES], e: usize) -> [u8; 16]
     requires { ⌜ (now scr ≡ onePeriod) × (e % superElements < fecElements * fecBlocks) × (infoElements < elementLocal e) ⌝ }
     ensures { λ r. ⌜ r ≡ pack 16 (parityElement (now (parity .entry)) e) ⌝ }
 {
-    let l = e % 10976;
-    let at = 119 * (l % 2194) - 244702;
+    let l = e % line::SUPER_ELEMENTS;
+    let at = line::ELEMENT_BITS * (l % line::FEC_ELEMENTS) - line::PARITY_FROM;
     line::sum(
         bits::word_from(parity, at),
-        bits::word_from(scr, 119 * l % 65535),
+        bits::word_from(scr, line::ELEMENT_BITS * l % scrambler::PERIOD),
     )
 }
 
@@ -356,7 +381,7 @@ fn new_word(
     b: usize,
     bits: &[u8],
     parity: &[u8],
-    scr: &[u8; 8208],
+    scr: &[u8; PERIOD_BYTES],
     t: &[u16; 4096],
     tails: &[u16; 512],
     crc: u32,
@@ -367,7 +392,7 @@ fn new_word(
     ensures { λ r. ⌜ r ≡ remade b (now (bits .entry)) (now (parity .entry)) crc w old ⌝ }
 {
     let e = line::element_in(w);
-    if 2056 < e % 10976 % 2194 {
+    if line::INFO_ELEMENTS < e % line::SUPER_ELEMENTS % line::FEC_ELEMENTS {
         return hamming::encode_by(t, tails, parity_element(parity, scr, e));
     }
     hamming::encode_by(t, tails, new_element(b, bits, parity, scr, crc, e, &old))
@@ -391,7 +416,7 @@ fn turn(
     b: usize,
     bits: &[u8],
     parity: &[u8],
-    scr: &[u8; 8208],
+    scr: &[u8; PERIOD_BYTES],
     t: &[u16; 4096],
     tails: &[u16; 512],
     crc: u32,
@@ -419,7 +444,7 @@ fn rewrite(
     b: usize,
     bits: &[u8],
     parity: &[u8],
-    scr: &[u8; 8208],
+    scr: &[u8; PERIOD_BYTES],
     t: &[u16; 4096],
     tails: &[u16; 512],
     crc: u32,
@@ -449,7 +474,7 @@ fn replace(
     requires { ⌜ (now t ≡ byteTable) × Accepted n b (now bits) (now parity) (now capture) (now list) ⌝ }
     ensures { λ r. ⌜ Passing n b (now (bits .entry)) (now (parity .entry)) (now (capture .entry)) (now (list .entry)) (words n) (now (capture .exit)) (now (list .exit)) r ⌝ }
 {
-    let mut scr = [0u8; 8208];
+    let mut scr = [0u8; PERIOD_BYTES];
     scrambler::fill(&mut scr);
     let tails = hamming::tail_table();
     let crc = crc_change(b, bits, capture, &scr);
@@ -470,7 +495,7 @@ fn edit_checked(
 {
     let t = hamming::byte_table();
     let w = first_refused(n, b, capture, &t);
-    if w < 10976 * n + 480 {
+    if w < line::SUPER_ELEMENTS * n + line::LONGEST_WAIT {
         return answer::refuse(answer::LISTED_FAILS, w as u64);
     }
     answer::granted(replace(n, b, bits, parity, &t, capture, list) as u64)

@@ -9,6 +9,45 @@ ghost use Rattle.line.specs.Fec.{mbasAllowed, mbasOf};
 ghost use Rattle.line.specs.Slots.{slotOf, delay, elementIn, holds};
 ghost use Rattle.line.specs.Words.{symbolPlace, wordIn};
 
+// ---- the sizes of document 01, as `specs/Sizes.antt` names them: bits, bytes and elements of a client block, an FEC block, a super frame
+
+pub const BLOCK_BITS: usize = 257;
+
+pub const CLIENT_BLOCKS: usize = 952;
+
+pub const INFO_BITS: usize = 244664;
+
+pub const MBAS_FROM: usize = 244696;
+
+pub const PARITY_FROM: usize = 244702;
+
+pub const PARITY_BITS: usize = 16384;
+
+pub const FEC_BITS: usize = 261086;
+
+pub const INFO_BYTES: usize = 30583;
+
+pub const PARITY_BYTES: usize = 2048;
+
+pub const PAD_FROM: usize = 1305430;
+
+pub const ELEMENT_BITS: usize = 119;
+
+pub const INFO_ELEMENTS: usize = 2056;
+
+pub const FEC_ELEMENTS: usize = 2194;
+
+pub const SUPER_ELEMENTS: usize = 10976;
+
+pub const SUPER_INFO_BYTES: usize = 152915;
+
+pub const SUPER_PARITY_BYTES: usize = 10240;
+
+// So many words the first row waits in the interleaver: as many more than elements a capture has.
+pub const LONGEST_WAIT: usize = 480;
+
+// ----
+
 // Whether a capture may have n super frames.
 pub fn super_allowed(n: u64) -> bool
     ensures { λ r. ⌜ r ≡ superAllowed n ⌝ }
@@ -63,7 +102,7 @@ pub fn holds_element(n: usize, w: usize) -> bool
     if w < d {
         return false;
     }
-    (w - d) / 10976 < n
+    (w - d) / SUPER_ELEMENTS < n
 }
 
 // Bit by bit, the sum of two words without carries.

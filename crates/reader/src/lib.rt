@@ -148,10 +148,10 @@ fn verdict(n: usize, w: WordTally, b: BlockTally) -> Answer
     requires { ⌜ n < 9 ⌝ }
     ensures { λ r. ⌜ r ≡ verdictOf n w b ⌝ }
 {
-    if w.beyond < 10976 * n + 480 {
+    if w.beyond < line::SUPER_ELEMENTS * n + line::LONGEST_WAIT {
         return answer::refuse(answer::BEYOND_REPAIR, w.beyond as u64);
     }
-    if w.filler < 10976 * n + 480 {
+    if w.filler < line::SUPER_ELEMENTS * n + line::LONGEST_WAIT {
         return answer::refuse(answer::FILLER_NOT_ZERO, w.filler as u64);
     }
     if b.mbas < 5 * n {
@@ -281,7 +281,7 @@ fn tally_words(t: &[u16; 4096], positions: &[u8; 512], n: usize, capture: &[u8])
         filler: 0,
         seen: 0,
     };
-    for w in 0..10976 * n + 480 {
+    for w in 0..10976 * n + line::LONGEST_WAIT {
         s = take_word(t, positions, n, capture, w, s);
     }
     s
@@ -350,9 +350,9 @@ fn frame(
     requires { ⌜ Tables (now t) (now positions) × (now scr ≡ sequence) × (f < 8) × (length (now out) ≡ superBytes) ⌝ }
     ensures { λ _. ⌜ now (out .exit) ≡ frameOf (now (capture .entry)) f ⌝ }
 {
-    let mut here = element(t, positions, capture, 10976 * f);
+    let mut here = element(t, positions, capture, line::SUPER_ELEMENTS * f);
     for l in 0..10976 {
-        let next = element(t, positions, capture, 10976 * f + (l + 1));
+        let next = element(t, positions, capture, line::SUPER_ELEMENTS * f + (l + 1));
         let a = 15 * l - l / 8;
         let e = 15 * (l + 1) - (l + 1) / 8;
         let v = follow(here, next);
@@ -377,7 +377,7 @@ fn is_mbas_off(m0: u64, s: &[u8], t: usize, b: usize) -> bool
     requires { ⌜ b < 5 ⌝ }
     ensures { λ r. ⌜ r ≡ mbasOff m0 (now (s .entry)) t b ⌝ }
 {
-    bits::byte_from(s, 261086 * b + 244696) / 4 != line::mbas(m0, t as u64)
+    bits::byte_from(s, line::FEC_BITS * b + line::MBAS_FROM) / 4 != line::mbas(m0, t as u64)
 }
 
 // The CRC of the information of block b.
@@ -385,8 +385,8 @@ fn block_crc(crcs: &[u32; 256], s: &[u8], b: usize) -> u32
     requires { ⌜ (now crcs ≡ entries) × (b < 5) ⌝ }
     ensures { λ r. ⌜ r ≡ crcOf infoBits (from (bitAt (now (s .entry))) (fecBits * b)) ⌝ }
 {
-    let mut block = [0u8; 30583];
-    bits::copy(s, 261086 * b, &mut block);
+    let mut block = [0u8; line::INFO_BYTES];
+    bits::copy(s, line::FEC_BITS * b, &mut block);
     crc::crc(crcs, &block)
 }
 
@@ -394,7 +394,7 @@ fn is_crc_off(crcs: &[u32; 256], s: &[u8], b: usize) -> bool
     requires { ⌜ (now crcs ≡ entries) × (b < 5) ⌝ }
     ensures { λ r. ⌜ r ≡ crcOff (now (s .entry)) b ⌝ }
 {
-    long_from(s, 261086 * b + 244664) != block_crc(crcs, s, b)
+    long_from(s, line::FEC_BITS * b + line::INFO_BITS) != block_crc(crcs, s, b)
 }
 
 // Whether a pad bit is not zero. The last of the 90 bytes reaches past the end, where there are zeros.
@@ -403,7 +403,7 @@ fn is_pad_off(s: &[u8]) -> bool
     ensures { λ r. ⌜ r ≡ padOff (now (s .entry)) ⌝ }
 {
     for k in 0..90 {
-        if bits::byte_from(s, 1305430 + 8 * k) != 0 {
+        if bits::byte_from(s, line::PAD_FROM + 8 * k) != 0 {
             return true;
         }
     }
@@ -492,10 +492,14 @@ fn write_blocks(s: &[u8], info: &mut [u8], parity: &mut [u8])
     ensures { λ _. ⌜ (now (info .exit) ≡ pack (infoLength 1) (infoIn (now (s .entry)))) × (now (parity .exit) ≡ pack (parityLength 1) (parityIn (now (s .entry)))) ⌝ }
 {
     for b in 0..5 {
-        let i = 30583 * b;
-        let p = 2048 * b;
-        bits::copy(s, 261086 * b, &mut info[i..i + 30583]);
-        bits::copy(s, 261086 * b + 244702, &mut parity[p..p + 2048]);
+        let i = line::INFO_BYTES * b;
+        let p = line::PARITY_BYTES * b;
+        bits::copy(s, line::FEC_BITS * b, &mut info[i..i + line::INFO_BYTES]);
+        bits::copy(
+            s,
+            line::FEC_BITS * b + line::PARITY_FROM,
+            &mut parity[p..p + line::PARITY_BYTES],
+        );
     }
 }
 
@@ -514,9 +518,13 @@ fn write_frames(
     ensures { λ _. ⌜ (now (info .exit) ≡ infoOf n (fecIn (repaired (now (capture .entry))))) × (now (parity .exit) ≡ parityOf n (fecIn (repaired (now (capture .entry))))) ⌝ }
 {
     for f in 0..n {
-        let i = 152915 * f;
-        let p = 10240 * f;
+        let i = line::SUPER_INFO_BYTES * f;
+        let p = line::SUPER_PARITY_BYTES * f;
         frame(t, positions, scr, capture, f, buffer);
-        write_blocks(buffer, &mut info[i..i + 152915], &mut parity[p..p + 10240]);
+        write_blocks(
+            buffer,
+            &mut info[i..i + line::SUPER_INFO_BYTES],
+            &mut parity[p..p + line::SUPER_PARITY_BYTES],
+        );
     }
 }

@@ -9,6 +9,9 @@ ghost use Rattle.scrambler.specs.Register.{Steps, Rule, Opened, Begun};
 // The bytes of a super frame.
 pub const FRAME_BYTES: usize = 163268;
 
+// After so many bits the sequence repeats.
+pub const PERIOD: usize = 65535;
+
 // o(0), .., o(15).
 const START: u32 = 0xFFFF;
 
