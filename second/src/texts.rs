@@ -20,6 +20,9 @@ const CAPTURE_SEED: u64 = 999;
 const INFORMATION_SEED: u64 = 998;
 const PARITY_SEED: u64 = 997;
 const LIST_SEED: u64 = 996;
+const GROUPS_SEED: u64 = 995;
+const WINDOW_SEED: u64 = 994;
+const OTHER_GROUPS_SEED: u64 = 993;
 
 fn shown(answer: Answer) -> String {
     format!("number {} place {} count {}", answer.number, answer.place, answer.count)
@@ -971,9 +974,13 @@ fn part_line(label: &str, n: u64, t: u64, information: &[u8]) -> String {
 
 // ---------------------------------------------------------------- edges
 
-/// The published values and the starred cases of document 01, section "Both sides of each edge".
-/// The other cases of that section stand in the texts of gmp_lines, coded, readings and edits.
+/// Document 01, section "Both sides of each edge": the published values and the starred cases, then every case that
+/// it says a program runs, with what was answered.
 pub fn edges() -> String {
+    published_numbers() + &starred_cases() + &edge_places() + &edge_captures() + &edge_flips()
+}
+
+fn published_numbers() -> String {
     let mut text = String::new();
     let nine = bits_of_bytes(b"123456789");
     text += &format!("CRC of 123456789: {}\n", hex(number_of_bits(&fec::crc(&nine))));
@@ -986,6 +993,11 @@ pub fn edges() -> String {
         "scrambled pad bits 0 to 31: {}\n",
         hex(number_of_bits(&scrambler[pad..pad + 32]))
     );
+    text
+}
+
+fn starred_cases() -> String {
+    let mut text = String::new();
     for (c, j) in [
         (0, 1),
         (10_220, 10_220),
@@ -1002,6 +1014,127 @@ pub fn edges() -> String {
         text += &format!("word {}: element {}\n", w, slots[w].unwrap());
     }
     text += &format!("word 9 symbol 2: byte {}\n", symbols::byte_place(9, 2));
+    let zeros = vec![false; super_frame::ELEMENT_BITS];
+    text += &format!("element of zeros: word {}\n", word_in_hex(&Matrix::new().encode(&zeros)));
+    text
+}
+
+/// What a buffer held before a call and after it.
+fn change(name: &str, before: &[u8], after: &[u8]) -> String {
+    format!(" {} before {} after {}", name, digest(before), digest(after))
+}
+
+/// A count that is none, and the last window and the one that would end past the last place.
+fn edge_places() -> String {
+    let mut text = String::new();
+    let (c, j) = (10_221, 1);
+    let (answer, kind, last) = gmp::run_at(c, j);
+    text += &format!(
+        "C {} place {} run: number {} {} last {}\n",
+        c,
+        j,
+        answer.number,
+        kind_name(kind),
+        last
+    );
+    text += &format!("C {} place {} runs: {}\n", c, j, shown(gmp::count_runs(c, j)));
+    // The lengths are those of n places that are all data.
+    text += &edge_window(10_221, 1, 2, 257);
+    text += &edge_window(10_220, 10_219, 2, 257);
+    text += &edge_window(10_220, 10_219, 4, 514);
+    text
+}
+
+/// Maps groups into a window that stands full of other bytes, then unmaps it into groups that do so too.
+fn edge_window(c: u64, f: u64, n: u64, length: usize) -> String {
+    let given = bytes_from_seed(GROUPS_SEED, length);
+    let before = bytes_from_seed(WINDOW_SEED, length);
+    let mut window = before.clone();
+    let answer = gmp::map(c, f, n, &given, &mut window);
+    let mut text = format!("C {} f {} n {} map: {} groups {}", c, f, n, shown(answer), digest(&given));
+    text += &change("window", &before, &window);
+    let before = bytes_from_seed(OTHER_GROUPS_SEED, length);
+    let mut groups = before.clone();
+    let answer = gmp::unmap(c, f, n, &window, &mut groups);
+    text += &format!(
+        "\nC {} f {} n {} unmap: {} window {}",
+        c,
+        f,
+        n,
+        shown(answer),
+        digest(&window)
+    );
+    text + &change("groups", &before, &groups) + "\n"
+}
+
+/// The last client block of one super frame and the first past it, then no super frame and nine: all with the buffers
+/// of one super frame, coded from seed 101. The capture is another than that of the information since it was edited,
+/// so that a call which should be refused and is not would show in any of the buffers.
+fn edge_captures() -> String {
+    let Coded {
+        mut information,
+        mut parity,
+        mut capture,
+        ..
+    } = coded_capture(1);
+    let mut text = edge_edit(1, 4_759, &mut capture);
+    text += &edge_edit(1, 4_760, &mut capture);
+    for n in [0, 9] {
+        let (answer, part) = capture::part(n, 0, &information);
+        text += &format!("N {} part 0: {} bytes {}\n", n, shown(answer), part.len());
+        text += &edge_code(n, 7, &information, &parity, &mut capture);
+        text += &edge_read(n, 7, &capture, &mut information, &mut parity);
+        text += &edge_edit(n, 0, &mut capture);
+    }
+    text
+}
+
+fn edge_code(n: u64, m0: u64, information: &[u8], parity: &[u8], captured: &mut [u8]) -> String {
+    let before = captured.to_vec();
+    let answer = capture::code(n, m0, information, parity, captured);
+    let mut text = format!("N {} m0 {} code: {}", n, m0, shown(answer));
+    text += &format!(" information {} parity {}", digest(information), digest(parity));
+    text + &change("capture", &before, captured) + "\n"
+}
+
+fn edge_read(n: u64, m0: u64, captured: &[u8], information: &mut [u8], parity: &mut [u8]) -> String {
+    let information_before = information.to_vec();
+    let parity_before = parity.to_vec();
+    let answer = capture::read(n, m0, captured, information, parity);
+    let mut text = format!("N {} m0 {} read: {} capture {}", n, m0, shown(answer), digest(captured));
+    text += &change("information", &information_before, information);
+    text + &change("parity", &parity_before, parity) + "\n"
+}
+
+/// The client block and the parity are those of block 4,759.
+fn edge_edit(n: u64, block: u64, captured: &mut [u8]) -> String {
+    let before = captured.to_vec();
+    let mut list = list_before(capture::LIST_LENGTH);
+    let answer = capture::edit(n, block, &edit_client(4_759), &edit_parity(4_759), captured, &mut list);
+    let mut text = format!("N {} block {} edit: {}", n, block, shown(answer));
+    text += &change("capture", &before, captured);
+    text + &format!(
+        " list before {} after {}\n",
+        digest_of_numbers(&list_before(capture::LIST_LENGTH)),
+        digest_of_numbers(&list)
+    )
+}
+
+/// For each N one flip in every word of a capture, filler too. The buffers stand full of other bytes.
+fn edge_flips() -> String {
+    let mut text = String::new();
+    for n in 1..=8 {
+        let c = coded_capture(n);
+        let mut captured = bytes_from_seed(CAPTURE_SEED, c.capture.len());
+        text += &edge_code(n, c.m0, &c.information, &c.parity, &mut captured);
+        for w in 0..interleaver::words(n as usize) {
+            flip(&mut captured, w, (w * 37 + 11) % WORD_BITS);
+        }
+        let mut information = bytes_from_seed(INFORMATION_SEED, c.information.len());
+        let mut parity = bytes_from_seed(PARITY_SEED, c.parity.len());
+        text += "one flip in every word, ";
+        text += &edge_read(n, c.m0, &captured, &mut information, &mut parity);
+    }
     text
 }
 

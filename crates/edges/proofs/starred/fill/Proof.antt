@@ -1,10 +1,10 @@
--- `edges::fill` is safe and ends. Assumes nothing.
+-- `edges::starred::fill` is safe and ends. Assumes nothing.
 use Prim.Native.Nat.{_-_}
 use mathlib.Core.Path.{_≡_}
 use lib.ListN.{length}
 use borrow.Author.Needs.{needs}
-use Rattle.edges.proofs.fill.Statement.{statement}
-use Rattle.edges.proofs.fill.Tie as tie
+use Rattle.edges.proofs.starred.fill.Statement.{statement}
+use Rattle.edges.proofs.starred.fill.Tie as tie
 
 abbrev Inv-loop : tie.InvT-loop
 Inv-loop s₀ k₀ k-end s k = length s ≡ length s₀
