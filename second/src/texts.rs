@@ -21,8 +21,6 @@ const INFORMATION_SEED: u64 = 998;
 const PARITY_SEED: u64 = 997;
 const LIST_SEED: u64 = 996;
 const GROUPS_SEED: u64 = 995;
-const WINDOW_SEED: u64 = 994;
-const OTHER_GROUPS_SEED: u64 = 993;
 
 fn shown(answer: Answer) -> String {
     format!("number {} place {} count {}", answer.number, answer.place, answer.count)
@@ -974,10 +972,10 @@ fn part_line(label: &str, n: u64, t: u64, information: &[u8]) -> String {
 
 // ---------------------------------------------------------------- edges
 
-/// Document 01, section "Both sides of each edge": the published values and the starred cases, then every case that
-/// it says a program runs, with what was answered.
+/// Document 01, section "Both sides of each edge": the published values and the starred cases, then the counts and
+/// windows that a program runs.
 pub fn edges() -> String {
-    published_numbers() + &starred_cases() + &edge_places() + &edge_captures() + &edge_flips()
+    published_numbers() + &starred_cases() + &edge_places()
 }
 
 fn published_numbers() -> String {
@@ -987,11 +985,11 @@ fn published_numbers() -> String {
     let zeros = bits_of_bytes(&vec![0u8; fec::INFORMATION_BYTES]);
     text += &format!("CRC of 30583 zero bytes: {}\n", hex(number_of_bits(&fec::crc(&zeros))));
     let scrambler = super_frame::scrambler(super_frame::BITS);
-    text += &format!("scrambler bits 0 to 31: {}\n", hex(number_of_bits(&scrambler[0..32])));
+    text += &format!("scrambler from bit 0 on: {}\n", word_in_hex(&scrambler[0..WORD_BITS]));
     let pad = super_frame::PAD_START;
     text += &format!(
-        "scrambled pad bits 0 to 31: {}\n",
-        hex(number_of_bits(&scrambler[pad..pad + 32]))
+        "scrambled pad from bit 0 on: {}\n",
+        word_in_hex(&scrambler[pad..pad + WORD_BITS])
     );
     text
 }
@@ -1007,7 +1005,7 @@ fn starred_cases() -> String {
         (10_217, 3_407),
         (10_217, 3_408),
     ] {
-        text += &format!("C {} place {}: {}\n", c, j, kind_name(gmp::kind(c, j)));
+        text += &edge_place(c, j);
     }
     let slots = interleaver::slots(2);
     for w in [480, 15, 496, 11_456] {
@@ -1019,123 +1017,108 @@ fn starred_cases() -> String {
     text
 }
 
-/// What a buffer held before a call and after it.
-fn change(name: &str, before: &[u8], after: &[u8]) -> String {
-    format!(" {} before {} after {}", name, digest(before), digest(after))
-}
-
-/// A count that is none, and the last window and the one that would end past the last place.
-fn edge_places() -> String {
-    let mut text = String::new();
-    let (c, j) = (10_221, 1);
+fn edge_place(c: u64, j: u64) -> String {
     let (answer, kind, last) = gmp::run_at(c, j);
-    text += &format!(
-        "C {} place {} run: number {} {} last {}\n",
+    format!(
+        "C {} place {}: number {} last {} {}\n",
         c,
         j,
         answer.number,
-        kind_name(kind),
-        last
-    );
-    text += &format!("C {} place {} runs: {}\n", c, j, shown(gmp::count_runs(c, j)));
-    // The lengths are those of n places that are all data.
+        last,
+        kind_name(kind)
+    )
+}
+
+/// A count that is none, the last window of all, and one that would end past the last place. The lengths are those of
+/// n places that are all data.
+fn edge_places() -> String {
+    let mut text = edge_place(10_221, 1);
+    text += &format!("C 10221 place 1 runs: {}\n", shown(gmp::count_runs(10_221, 1)));
     text += &edge_window(10_221, 1, 2, 257);
     text += &edge_window(10_220, 10_219, 2, 257);
     text += &edge_window(10_220, 10_219, 4, 514);
     text
 }
 
-/// Maps groups into a window that stands full of other bytes, then unmaps it into groups that do so too.
+/// Maps generated groups into a window of bytes 90, then unmaps that into groups of bytes 60.
 fn edge_window(c: u64, f: u64, n: u64, length: usize) -> String {
     let given = bytes_from_seed(GROUPS_SEED, length);
-    let before = bytes_from_seed(WINDOW_SEED, length);
-    let mut window = before.clone();
+    let mut window = vec![90u8; length];
+    let before = digest(&window);
     let answer = gmp::map(c, f, n, &given, &mut window);
-    let mut text = format!("C {} f {} n {} map: {} groups {}", c, f, n, shown(answer), digest(&given));
-    text += &change("window", &before, &window);
-    let before = bytes_from_seed(OTHER_GROUPS_SEED, length);
-    let mut groups = before.clone();
+    let mut text = format!("C {} f {} n {} map: {}", c, f, n, shown(answer));
+    text += &change("", before, digest(&window));
+    let mut groups = vec![60u8; length];
+    let before = digest(&groups);
     let answer = gmp::unmap(c, f, n, &window, &mut groups);
-    text += &format!(
-        "\nC {} f {} n {} unmap: {} window {}",
-        c,
-        f,
-        n,
-        shown(answer),
-        digest(&window)
-    );
-    text + &change("groups", &before, &groups) + "\n"
+    text += &format!("\nC {} f {} n {} unmap: {}", c, f, n, shown(answer));
+    text + &change("", before, digest(&groups)) + "\n"
 }
 
-/// The last client block of one super frame and the first past it, then no super frame and nine: all with the buffers
-/// of one super frame, coded from seed 101. The capture is another than that of the information since it was edited,
-/// so that a call which should be refused and is not would show in any of the buffers.
-fn edge_captures() -> String {
-    let Coded {
-        mut information,
-        mut parity,
-        mut capture,
-        ..
-    } = coded_capture(1);
-    let mut text = edge_edit(1, 4_759, &mut capture);
-    text += &edge_edit(1, 4_760, &mut capture);
-    for n in [0, 9] {
-        let (answer, part) = capture::part(n, 0, &information);
-        text += &format!("N {} part 0: {} bytes {}\n", n, shown(answer), part.len());
-        text += &edge_code(n, 7, &information, &parity, &mut capture);
-        text += &edge_read(n, 7, &capture, &mut information, &mut parity);
-        text += &edge_edit(n, 0, &mut capture);
-    }
-    text
+/// The digests of a buffer before a call and after it.
+fn change(name: &str, before: String, after: String) -> String {
+    format!("{} before {} after {}", name, before, after)
 }
 
-fn edge_code(n: u64, m0: u64, information: &[u8], parity: &[u8], captured: &mut [u8]) -> String {
-    let before = captured.to_vec();
-    let answer = capture::code(n, m0, information, parity, captured);
-    let mut text = format!("N {} m0 {} code: {}", n, m0, shown(answer));
-    text += &format!(" information {} parity {}", digest(information), digest(parity));
-    text + &change("capture", &before, captured) + "\n"
-}
+// ---------------------------------------------------------------- capture_edges
 
-fn edge_read(n: u64, m0: u64, captured: &[u8], information: &mut [u8], parity: &mut [u8]) -> String {
-    let information_before = information.to_vec();
-    let parity_before = parity.to_vec();
-    let answer = capture::read(n, m0, captured, information, parity);
-    let mut text = format!("N {} m0 {} read: {} capture {}", n, m0, shown(answer), digest(captured));
-    text += &change("information", &information_before, information);
-    text + &change("parity", &parity_before, parity) + "\n"
-}
-
-/// The client block and the parity are those of block 4,759.
-fn edge_edit(n: u64, block: u64, captured: &mut [u8]) -> String {
-    let before = captured.to_vec();
-    let mut list = list_before(capture::LIST_LENGTH);
-    let answer = capture::edit(n, block, &edit_client(4_759), &edit_parity(4_759), captured, &mut list);
-    let mut text = format!("N {} block {} edit: {}", n, block, shown(answer));
-    text += &change("capture", &before, captured);
-    text + &format!(
-        " list before {} after {}\n",
-        digest_of_numbers(&list_before(capture::LIST_LENGTH)),
-        digest_of_numbers(&list)
-    )
-}
-
-/// For each N one flip in every word of a capture, filler too. The buffers stand full of other bytes.
-fn edge_flips() -> String {
+/// The same section: no super frame and nine, the last client block and the first past it, one flip in every word.
+/// The same calls for each N from 0 to 9. For 0 and 9 the buffers are those of 1 and of 8 super frames.
+pub fn capture_edges() -> String {
     let mut text = String::new();
-    for n in 1..=8 {
-        let c = coded_capture(n);
-        let mut captured = bytes_from_seed(CAPTURE_SEED, c.capture.len());
-        text += &edge_code(n, c.m0, &c.information, &c.parity, &mut captured);
-        for w in 0..interleaver::words(n as usize) {
-            flip(&mut captured, w, (w * 37 + 11) % WORD_BITS);
-        }
-        let mut information = bytes_from_seed(INFORMATION_SEED, c.information.len());
-        let mut parity = bytes_from_seed(PARITY_SEED, c.parity.len());
-        text += "one flip in every word, ";
-        text += &edge_read(n, c.m0, &captured, &mut information, &mut parity);
+    for n in 0..=9 {
+        text += &capture_edge(n, n.clamp(1, 8));
     }
     text
+}
+
+fn capture_edge(n: u64, buffers: u64) -> String {
+    let mut generator = Generator::new(100 + n);
+    let mut information = generator.bytes(capture::information_length(buffers));
+    let mut parity = generator.bytes(capture::parity_length(buffers));
+    let mut captured = bytes_from_seed(CAPTURE_SEED, capture::capture_length(buffers));
+    let m0 = 7;
+
+    let (answer, part) = capture::part(n, 0, &information);
+    let mut text = format!("N {} part 0: {} bytes {}\n", n, shown(answer), part.len());
+
+    let before = digest(&captured);
+    let answer = capture::code(n, m0, &information, &parity, &mut captured);
+    text += &format!("N {} code: {}", n, shown(answer));
+    text += &change(" capture", before, digest(&captured));
+    text += &both_digests("", &information, &parity);
+
+    let mut damaged = captured.clone();
+    for w in 0..damaged.len() / 16 {
+        flip(&mut damaged, w, (w * 37 + 11) % WORD_BITS);
+    }
+    information = bytes_from_seed(INFORMATION_SEED, information.len());
+    parity = bytes_from_seed(PARITY_SEED, parity.len());
+    let before = [digest(&information), digest(&parity)];
+    let answer = capture::read(n, m0, &damaged, &mut information, &mut parity);
+    text += &format!("N {} read, one flip in every word: {}", n, shown(answer));
+    let [information_before, parity_before] = before;
+    text += &change(" information", information_before, digest(&information));
+    text += &change(" parity", parity_before, digest(&parity));
+    text += "\n";
+
+    // The last client block and the first past it. There is no last block of no super frame: it is one far past the end.
+    let first_past = 4_760 * n;
+    let last = if n == 0 { 47_599 } else { first_past - 1 };
+    text += &edge_edit(n, last, &mut captured);
+    text += &edge_edit(n, first_past, &mut captured);
+    text
+}
+
+/// 33 bytes 128, the parity all bytes 90, and a list of sevens.
+fn edge_edit(n: u64, block: u64, captured: &mut [u8]) -> String {
+    let mut list = [7u64; capture::LIST_LENGTH];
+    let before = digest(captured);
+    let list_before = digest_of_numbers(&list);
+    let answer = capture::edit(n, block, &[128; 33], &[90; fec::PARITY_BYTES], captured, &mut list);
+    let mut text = format!("N {} edit of block {}: {}", n, block, shown(answer));
+    text += &change(" capture", before, digest(captured));
+    text + &change(" list", list_before, digest_of_numbers(&list)) + "\n"
 }
 
 // ---------------------------------------------------------------- vectors

@@ -1,40 +1,55 @@
-// The starred cases, by the functions that are proved.
+// The published values of the CRC and of the scrambler, and the starred cases, by the functions that are proved.
 use gmp::Kind;
 use libc::STDOUT_FILENO;
 
-pub fn kind(k: Kind) {
-    match k {
-        Kind::Stuff => {
-            said::text(b"stuff");
-        }
-        Kind::Data => {
-            said::text(b"data");
-        }
-    }
-}
-
-pub fn name_place(c: u64, j: u64) {
-    said::number(b"C ", c);
-    said::number(b" place ", j);
-}
-
-fn place(c: u64, j: u64) {
-    name_place(c, j);
-    said::text(b": ");
-    let r = gmp::run(c, j);
-    let k = r.kind;
-    kind(k);
+fn crc_of(name: &[u8], s: &[u8]) {
+    let t = crc::table();
+    said::hex(name, crc::crc(&t, s) as u64);
     said::text(b"\n");
 }
 
-fn places() {
-    place(0, 1);
-    place(10220, 10220);
-    place(10216, 1);
-    place(10216, 2);
-    place(10216, 2556);
-    place(10217, 3407);
-    place(10217, 3408);
+fn crc_of_zeros() {
+    let zeros = [0u8; 30583];
+    crc_of(b"CRC of 30583 zero bytes: ", &zeros);
+}
+
+fn wide(x: u8) -> u64 {
+    x as u64
+}
+
+fn say_word(name: &[u8], w: [u8; 16]) {
+    said::text(name);
+    for k in 0..16 {
+        io::print_hex(STDOUT_FILENO, wide(w[k]), 2);
+    }
+    said::text(b"\n");
+}
+
+// The pad is zero before scrambling, so that the scrambled pad is the sequence itself.
+fn sequence() {
+    let s = scrambler::sequence();
+    say_word(b"scrambler from bit 0 on: ", bits::word_from(&s, 0));
+    say_word(
+        b"scrambled pad from bit 0 on: ",
+        bits::word_from(&s, 1305430),
+    );
+}
+
+pub fn place(c: u64, j: u64) {
+    said::number(b"C ", c);
+    said::number(b" place ", j);
+    let r = gmp::run(c, j);
+    said::number(b": number ", r.number);
+    said::number(b" last ", r.last);
+    let kind = r.kind;
+    match kind {
+        Kind::Stuff => {
+            said::text(b" stuff\n");
+        }
+        Kind::Data => {
+            said::text(b" data\n");
+        }
+    }
 }
 
 fn word(w: usize) {
@@ -43,58 +58,30 @@ fn word(w: usize) {
     said::text(b"\n");
 }
 
-fn words() {
-    word(480);
-    word(15);
-    word(496);
-    word(11456);
-}
-
-// Byte k of a capture of 256 bytes is k.
-fn fill(s: &mut [u8]) {
-    for k in 0..s.len() {
-        s[k] = (k % 256) as u8;
-    }
-}
-
-fn wide(x: u8) -> u64 {
-    x as u64
-}
-
-fn said_symbol(capture: &mut [u8]) {
-    fill(capture);
-    let v = line::word_in(capture, 9);
+// All bytes but one are zero.
+fn symbol() {
+    let mut capture = [0u8; 256];
+    capture[145] = 145;
+    let v = line::word_in(&capture, 9);
     said::number(b"word 9 symbol 2: byte ", wide(v[2]));
     said::text(b"\n");
 }
 
-fn symbol() {
-    let mut capture = [0u8; 256];
-    said_symbol(&mut capture);
-}
-
-// Eight digits for each four bytes.
-fn digits(s: &[u8], i: usize) {
-    io::print_hex(STDOUT_FILENO, crate::published::four(s, i), 8);
-}
-
-fn said_word(w: &[u8]) {
-    digits(w, 0);
-    digits(w, 32);
-    digits(w, 64);
-    digits(w, 96);
-    said::text(b"\n");
-}
-
-fn zeros() {
-    said::text(b"element of zeros: word ");
-    let w = hamming::encode([0u8; 16]);
-    said_word(&w);
-}
-
 pub fn cases() {
-    places();
-    words();
+    crc_of(b"CRC of 123456789: ", b"123456789");
+    crc_of_zeros();
+    sequence();
+    place(0, 1);
+    place(10220, 10220);
+    place(10216, 1);
+    place(10216, 2);
+    place(10216, 2556);
+    place(10217, 3407);
+    place(10217, 3408);
+    word(480);
+    word(15);
+    word(496);
+    word(11456);
     symbol();
-    zeros();
+    say_word(b"element of zeros: word ", hamming::encode([0u8; 16]));
 }

@@ -1,10 +1,10 @@
--- `edges::flips::turn_in_all` is safe and ends. Assumes nothing.
+-- `capture_edges::turn_in_all` is safe and ends. Assumes nothing.
 use Prim.Native.Nat.{_-_}
 use mathlib.Core.Path.{_≡_}
 use lib.ListN.{length}
 use borrow.Author.Needs.{needs}
-use Rattle.edges.proofs.flips.turn_in_all.Statement.{statement}
-use Rattle.edges.proofs.flips.turn_in_all.Tie as tie
+use Rattle.capture_edges.proofs.turn_in_all.Statement.{statement}
+use Rattle.capture_edges.proofs.turn_in_all.Tie as tie
 
 abbrev Inv-loop : tie.InvT-loop
 Inv-loop capture₀ w₀ w-end capture w = length capture ≡ length capture₀
