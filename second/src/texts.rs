@@ -1123,23 +1123,56 @@ fn edge_edit(n: u64, block: u64, captured: &mut [u8]) -> String {
 
 // ---------------------------------------------------------------- vectors
 
+/// The vectors that the documents publish: the CRC's check value, the scrambler's first 24 bits, 001 Tables 7 and 12.
+fn published_vectors() -> String {
+    let check = fec::crc(&bits_of_bytes(b"123456789"));
+    let mut text = format!("CRC of 123456789: {}\n", hex(number_of_bits(&check)));
+    let first = bytes_of_bits(&super_frame::scrambler(24));
+    text += &format!(
+        "scrambler bits 0 to 23: {:02x}{:02x}{:02x}\n",
+        first[0], first[1], first[2]
+    );
+    for c in TABLE_7_COUNTS {
+        text += &format!("Table 7: C {} stuff{}\n", c, stuff_runs(c));
+    }
+    for row in 0..16 {
+        text += &format!("Table 12: {:04b}", row);
+        for level in symbols::levels(row * 16 + row) {
+            text += &format!(" {}", level);
+        }
+        text += "\n";
+    }
+    text
+}
+
+/// The stuff runs of a count, each with its first and its last place.
+fn stuff_runs(c: u64) -> String {
+    let mut text = String::new();
+    let mut first = 1;
+    while first <= gmp::PLACES {
+        let (_, kind, last) = gmp::run_at(c, first);
+        if kind == Kind::Stuff {
+            text += &format!(" {}-{}", first, last);
+        }
+        first = last + 1;
+    }
+    text
+}
+
 /// A capture of n super frames from one seed: coded, edited, damaged, read, and edited once more.
-/// One generator gives information, parity, the two block numbers, the client block and its parity, and then for
-/// each word whether one of its bits is turned, and which.
+/// One generator gives information and parity; for each edit its block, the client block and its parity; and between
+/// the edits, for each word, whether one of its bits is turned, and which. Where coding is refused the capture is the
+/// one that stood there: zeros, which pass their checks.
 fn vector(n: u64, seed: u64, m0: u64) -> String {
     let mut generator = Generator::new(seed);
     let information = generator.bytes(capture::information_length(n));
     let parity = generator.bytes(capture::parity_length(n));
     let mut captured = vec![0u8; capture::capture_length(n)];
     let answer = capture::code(n, m0, &information, &parity, &mut captured);
-    let mut text = format!("N {} seed {} m0 {}: {} capture {}\n", n, seed, m0, shown(answer), digest(&captured));
+    let mut text = format!("N {} seed {} m0 {}: {}", n, seed, m0, shown(answer));
+    text += &format!(" capture {}\n", digest(&captured));
 
-    let first = generator.below(4_760 * n);
-    let second = generator.below(4_760 * n);
-    let mut client = generator.bytes(33);
-    client[32] &= 0x80;
-    let new_parity = generator.bytes(fec::PARITY_BYTES);
-    text += &vector_edit(n, first, &client, &new_parity, &mut captured);
+    text += &vector_edit(n, &mut generator, &mut captured);
     for w in 0..interleaver::words(n as usize) {
         let turned = generator.below(3) == 0;
         let bit = generator.below(128) as usize;
@@ -1155,19 +1188,19 @@ fn vector(n: u64, seed: u64, m0: u64) -> String {
         capture::information_length(n),
         capture::parity_length(n),
     );
-    text + &vector_edit(n, second, &client, &new_parity, &mut captured)
+    text + &vector_edit(n, &mut generator, &mut captured)
 }
 
-fn vector_edit(n: u64, block: u64, client: &[u8], parity: &[u8], captured: &mut [u8]) -> String {
-    edited(
-        &format!(" block {}", block),
-        n,
-        block,
-        client,
-        parity,
-        captured,
-        capture::LIST_LENGTH,
-    )
+/// An edit with a list that stands full of sevens.
+fn vector_edit(n: u64, generator: &mut Generator, captured: &mut [u8]) -> String {
+    let block = generator.below(4_760 * n);
+    let mut client = generator.bytes(33);
+    client[32] &= 0x80;
+    let parity = generator.bytes(fec::PARITY_BYTES);
+    let mut list = [7u64; capture::LIST_LENGTH];
+    let answer = capture::edit(n, block, &client, &parity, captured, &mut list);
+    let digests = format!("capture {} list {}", digest(captured), digest_of_numbers(&list));
+    format!(" block {}: {} {}\n", block, shown(answer), digests)
 }
 
 /// A window from one seed: the generator gives C, f, n and the groups.
@@ -1192,15 +1225,14 @@ fn vector_window(seed: u64) -> String {
     text
 }
 
-/// Seeds 1,001 to 1,008: N from 1 to 8, m0 0 and 63 in turn. Seeds 1,101 to 1,108: N = 1, m0 9 apart.
-/// Seeds 3,001 to 3,040: windows.
+/// For each N from 1 to 8 the first and the last m0 and the one past it, and N = 1 with an m0 between; then windows.
 pub fn vectors() -> String {
-    let mut text = String::new();
+    let mut text = published_vectors();
     for n in 1..=8 {
-        text += &vector(n, 1_000 + n, if n % 2 == 1 { 0 } else { 63 });
-    }
-    for k in 0..8 {
-        text += &vector(1, 1_101 + k, 9 * k);
+        text += &vector(n, 1_000 + n, 0);
+        text += &vector(n, 1_100 + n, 63);
+        text += &vector(n, 1_200 + n, 64);
+        text += &vector(1, 1_300 + n, 9 * (n % 8));
     }
     for seed in 3_001..=3_040 {
         text += &vector_window(seed);

@@ -1,10 +1,10 @@
--- `vectors::turn_all` is safe and ends. Assumes nothing.
+-- `vectors::captures::turn_all` is safe and ends. Assumes nothing.
 use Prim.Native.Nat.{_-_}
 use mathlib.Core.Path.{_≡_}
 use lib.ListN.{length}
 use borrow.Author.Needs.{needs}
-use Rattle.vectors.proofs.turn_all.Statement.{statement}
-use Rattle.vectors.proofs.turn_all.Tie as tie
+use Rattle.vectors.proofs.captures.turn_all.Statement.{statement}
+use Rattle.vectors.proofs.captures.turn_all.Tie as tie
 
 abbrev Inv-loop : tie.InvT-loop
 Inv-loop capture₀ h₀ w₀ w-end capture h w = length capture ≡ length capture₀

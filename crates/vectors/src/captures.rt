@@ -1,0 +1,122 @@
+// Captures of every length with every edge of m0, from many seeds. All that a case needs is made by one generator from its seed.
+use answer::Answer;
+use made::Generator;
+
+fn name(n: u64, seed: u64, m0: u64) {
+    said::number(b"N ", n);
+    said::number(b" seed ", seed);
+    said::number(b" m0 ", m0);
+}
+
+fn say_coded(r: Answer, capture: &[u8]) {
+    said::outcome(b": ", r);
+    said::digest(b" capture ", capture);
+    said::text(b"\n");
+}
+
+fn say_read(r: Answer, info: &[u8], parity: &[u8]) {
+    said::outcome(b" damaged: ", r);
+    said::digest(b" information ", info);
+    said::digest(b" parity ", parity);
+    said::text(b"\n");
+}
+
+fn say_edit(block: u64, r: Answer, capture: u64, list: u64) {
+    said::number(b" block ", block);
+    said::outcome(b": ", r);
+    said::hex(b" capture ", capture);
+    said::hex(b" list ", list);
+    said::text(b"\n");
+}
+
+// A client block, whose seven bits behind the 257 are zero, and the parity of its FEC block.
+fn edit(n: u64, g: Generator, capture: &mut [u8]) -> Generator {
+    let mut bits = [0u8; 33];
+    let mut parity = [0u8; 2048];
+    let mut list = [7u64; 145];
+    let first = made::step(g);
+    let block = made::below(first, 4760 * (n % 9));
+    let h = made::fill(made::fill(first, &mut bits), &mut parity);
+    bits[32] = bits[32] & 128;
+    let r = capture::edit(n, block, &bits, &parity, capture, &mut list);
+    say_edit(block, r, made::digest(capture), made::digest_numbers(&list));
+    h
+}
+
+// The word that has bit i only.
+fn bit(i: usize) -> [u8; 16] {
+    let mut v = [0u8; 16];
+    let k = i % 128;
+    v[k / 8] = 128 >> (k % 8);
+    v
+}
+
+// Turns a bit of word w, in one of three words, and returns the generator as it then is.
+fn turn_some(g: Generator, capture: &mut [u8], w: usize) -> Generator {
+    let first = made::step(g);
+    let second = made::step(first);
+    if made::below(first, 3) == 0 {
+        damage::turn(capture, w, bit(made::below(second, 128) as usize));
+    }
+    second
+}
+
+fn turn_all(g: Generator, capture: &mut [u8]) -> Generator {
+    let mut h = g;
+    for w in 0..capture.len() / 16 {
+        h = turn_some(h, capture, w);
+    }
+    h
+}
+
+// The buffers stand full of other bytes.
+fn read(n: u64, m0: u64, capture: &[u8], info: &mut [u8], parity: &mut [u8]) {
+    made::fill(made::start(998), info);
+    made::fill(made::start(997), parity);
+    let r = capture::read(n, m0, capture, info, parity);
+    say_read(r, info, parity);
+}
+
+fn code(n: u64, m0: u64, info: &[u8], parity: &[u8], capture: &mut [u8]) {
+    let r = capture::code(n, m0, info, parity, capture);
+    say_coded(r, capture);
+}
+
+fn damaged(n: u64, m0: u64, g: Generator, info: &mut [u8], parity: &mut [u8], capture: &mut [u8]) {
+    let h = edit(n, g, capture);
+    let k = turn_all(h, capture);
+    read(n, m0, capture, info, parity);
+    edit(n, k, capture);
+}
+
+fn case(n: u64, seed: u64, m0: u64, info: &mut [u8], parity: &mut [u8], capture: &mut [u8]) {
+    let g = made::fill(made::fill(made::start(seed), info), parity);
+    name(n, seed, m0);
+    code(n, m0, info, parity, capture);
+    damaged(n, m0, g, info, parity, capture);
+}
+
+fn sized(n: u64, seed: u64, m0: u64) {
+    let k = (n % 9) as usize;
+    let mut info = space::info_8();
+    let mut parity = [0u8; 81920];
+    let mut capture = space::capture_8();
+    case(
+        n,
+        seed,
+        m0,
+        &mut info[0..152915 * k],
+        &mut parity[0..10240 * k],
+        &mut capture[0..175616 * k + 7680],
+    );
+}
+
+// The first and the last m0, and the one past it, which is refused; then those between, nine apart.
+pub fn vectors() {
+    for n in 1..9u64 {
+        sized(n, 1000 + n, 0);
+        sized(n, 1100 + n, 63);
+        sized(n, 1200 + n, 64);
+        sized(1, 1300 + n, 9 * (n % 8));
+    }
+}

@@ -1,0 +1,98 @@
+// Windows from many seeds, mapped and unmapped. The generator gives C, f, n, the groups and the window before the call.
+use answer::Answer;
+use made::Generator;
+
+// Where d is odd, the last four bits of the groups are zero.
+fn clear_last(groups: &mut [u8], d: u64) {
+    if d % 2 == 1 {
+        if 0 < groups.len() {
+            let k = groups.len() - 1;
+            groups[k] = groups[k] & 240;
+        }
+    }
+}
+
+fn say_numbers(seed: u64, c: u64, f: u64, n: u64) {
+    said::number(b"seed ", seed);
+    said::number(b" C ", c);
+    said::number(b" f ", f);
+    said::number(b" n ", n);
+}
+
+fn say_mapped(r: Answer, window: &[u8]) {
+    said::outcome(b": ", r);
+    said::digest(b" window ", window);
+}
+
+fn say_back(r: Answer, groups: &[u8], given: u64) {
+    said::outcome(b" unmap ", r);
+    said::digest(b" groups ", groups);
+    said::hex(b" given ", given);
+    said::text(b"\n");
+}
+
+fn map(c: u64, f: u64, n: u64, groups: &[u8], window: &mut [u8]) {
+    let r = gmp::map(c, f, n, groups, window);
+    say_mapped(r, window);
+}
+
+fn unmap(c: u64, f: u64, n: u64, groups: &mut [u8], window: &[u8]) {
+    let given = made::digest(groups);
+    let r = gmp::unmap(c, f, n, window, groups);
+    say_back(r, groups, given);
+}
+
+fn window(c: u64, f: u64, n: u64, d: u64, g: Generator, groups: &mut [u8], window: &mut [u8]) {
+    let h = made::fill(g, groups);
+    clear_last(groups, d);
+    made::fill(h, window);
+    map(c, f, n, groups, window);
+    unmap(c, f, n, groups, window);
+}
+
+// The data places among f .. f + n - 1: the first j places hold floor(j C / P) of them.
+fn data_places(c: u64, f: u64, n: u64) -> u64 {
+    let upto = (f % 20000 + n % 20000) * (c % 20000) / 10220;
+    let before = f % 20000 * (c % 20000) / 10220;
+    if upto < before {
+        return 0;
+    }
+    upto - before
+}
+
+fn least(a: u64, b: u64) -> u64 {
+    if a < b { a } else { b }
+}
+
+// What stands before f is f - 1 places, and at most 80 places are mapped.
+fn sized(c: u64, f: u64, n: u64, g: Generator) {
+    let d = data_places(c, (f % 10221 + 10219) % 10220, n) % 81;
+    let mut groups = [0u8; 10281];
+    let mut space = [0u8; 10281];
+    window(
+        c,
+        f,
+        n,
+        d,
+        g,
+        &mut groups[0..((257 * d + 1) / 2) as usize],
+        &mut space[0..(257 * (n % 81) / 2) as usize],
+    );
+}
+
+fn windows(seed: u64) {
+    let g1 = made::step(made::start(seed));
+    let g2 = made::step(g1);
+    let g3 = made::step(g2);
+    let c = made::below(g1, 10221);
+    let f = 2 * (made::below(g2, 5110) % 5110) + 1;
+    let n = 2 + 2 * (made::below(g3, least(40, (10221 - f) / 2)) % 40);
+    say_numbers(seed, c, f, n);
+    sized(c, f, n, g3);
+}
+
+pub fn vectors() {
+    for seed in 3001..3041u64 {
+        windows(seed);
+    }
+}
