@@ -1159,36 +1159,31 @@ fn stuff_runs(c: u64) -> String {
     text
 }
 
-/// A capture of n super frames from one seed: coded, edited, damaged, read, and edited once more.
-/// One generator gives information and parity; for each edit its block, the client block and its parity; and between
-/// the edits, for each word, whether one of its bits is turned, and which. Where coding is refused the capture is the
-/// one that stood there: zeros, which pass their checks.
+/// A capture of n super frames from one seed: coded, then twice edited, damaged and read.
+/// One generator gives information and parity; then each time the block, the client block and its parity, and for each
+/// word whether one of its bits is turned, and which. The second time the edit meets damage, and words are beyond
+/// repair. Where coding is refused the capture is the one that stood there: zeros, which pass their checks.
 fn vector(n: u64, seed: u64, m0: u64) -> String {
     let mut generator = Generator::new(seed);
-    let information = generator.bytes(capture::information_length(n));
-    let parity = generator.bytes(capture::parity_length(n));
+    let mut information = generator.bytes(capture::information_length(n));
+    let mut parity = generator.bytes(capture::parity_length(n));
     let mut captured = vec![0u8; capture::capture_length(n)];
     let answer = capture::code(n, m0, &information, &parity, &mut captured);
     let mut text = format!("N {} seed {} m0 {}: {}", n, seed, m0, shown(answer));
     text += &format!(" capture {}\n", digest(&captured));
-
-    text += &vector_edit(n, &mut generator, &mut captured);
-    for w in 0..interleaver::words(n as usize) {
-        let turned = generator.below(3) == 0;
-        let bit = generator.below(128) as usize;
-        if turned {
-            flip(&mut captured, w, bit);
+    for _ in 0..2 {
+        text += &vector_edit(n, &mut generator, &mut captured);
+        for w in 0..interleaver::words(n as usize) {
+            let turned = generator.below(3) == 0;
+            let bit = generator.below(128) as usize;
+            if turned {
+                flip(&mut captured, w, bit);
+            }
         }
+        let answer = capture::read(n, m0, &captured, &mut information, &mut parity);
+        text += &both_digests(&format!(" damaged: {}", shown(answer)), &information, &parity);
     }
-    text += &reading(
-        " damaged",
-        n,
-        m0,
-        &captured,
-        capture::information_length(n),
-        capture::parity_length(n),
-    );
-    text + &vector_edit(n, &mut generator, &mut captured)
+    text
 }
 
 /// An edit with a list that stands full of sevens.
@@ -1203,7 +1198,8 @@ fn vector_edit(n: u64, generator: &mut Generator, captured: &mut [u8]) -> String
     format!(" block {}: {} {}\n", block, shown(answer), digests)
 }
 
-/// A window from one seed: the generator gives C, f, n and the groups.
+/// A window from one seed: the generator gives C, f, n, the groups, whose last four bits become zero, and what stands
+/// in the window before. The groups come back into bytes 60.
 fn vector_window(seed: u64) -> String {
     let mut generator = Generator::new(seed);
     let c = generator.below(gmp::PLACES + 1);
@@ -1212,16 +1208,16 @@ fn vector_window(seed: u64) -> String {
     let n = 2 + 2 * generator.below(if left < 40 { left } else { 40 });
     let d = gmp::data_places(c, f, n);
     let mut groups = generator.bytes(gmp::groups_length(d) as usize);
-    if d % 2 == 1 {
-        let last = groups.len() - 1;
-        groups[last] &= 0xf0;
+    if let Some(last) = groups.last_mut() {
+        *last &= 0xf0;
     }
     let mut window = generator.bytes(gmp::window_length(n) as usize);
     let answer = gmp::map(c, f, n, &groups, &mut window);
-    let mut text = format!("seed {} C {} f {} n {}: {} window {}", seed, c, f, n, shown(answer), digest(&window));
-    let given = digest(&groups);
-    let answer = gmp::unmap(c, f, n, &window, &mut groups);
-    text += &format!(" unmap {} groups {} given {}\n", shown(answer), digest(&groups), given);
+    let mut text = format!("seed {} C {} f {} n {} groups {}", seed, c, f, n, digest(&groups));
+    text += &format!(" map: {} window {}", shown(answer), digest(&window));
+    let mut back = vec![60u8; groups.len()];
+    let answer = gmp::unmap(c, f, n, &window, &mut back);
+    text += &format!(" unmap: {} groups {}\n", shown(answer), digest(&back));
     text
 }
 

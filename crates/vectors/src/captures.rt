@@ -29,17 +29,21 @@ fn say_edit(block: u64, r: Answer, capture: u64, list: u64) {
     said::text(b"\n");
 }
 
+fn edit_by(n: u64, block: u64, bits: &[u8], parity: &[u8], capture: &mut [u8]) {
+    let mut list = [7u64; 145];
+    let r = capture::edit(n, block, bits, parity, capture, &mut list);
+    say_edit(block, r, made::digest(capture), made::digest_numbers(&list));
+}
+
 // A client block, whose seven bits behind the 257 are zero, and the parity of its FEC block.
 fn edit(n: u64, g: Generator, capture: &mut [u8]) -> Generator {
     let mut bits = [0u8; 33];
     let mut parity = [0u8; 2048];
-    let mut list = [7u64; 145];
     let first = made::step(g);
-    let block = made::below(first, 4760 * (n % 9));
     let h = made::fill(made::fill(first, &mut bits), &mut parity);
     bits[32] = bits[32] & 128;
-    let r = capture::edit(n, block, &bits, &parity, capture, &mut list);
-    say_edit(block, r, made::digest(capture), made::digest_numbers(&list));
+    let block = made::below(first, 4760 * (n % 9));
+    edit_by(n, block, &bits, &parity, capture);
     h
 }
 
@@ -69,10 +73,7 @@ fn turn_all(g: Generator, capture: &mut [u8]) -> Generator {
     h
 }
 
-// The buffers stand full of other bytes.
 fn read(n: u64, m0: u64, capture: &[u8], info: &mut [u8], parity: &mut [u8]) {
-    made::fill(made::start(998), info);
-    made::fill(made::start(997), parity);
     let r = capture::read(n, m0, capture, info, parity);
     say_read(r, info, parity);
 }
@@ -82,18 +83,32 @@ fn code(n: u64, m0: u64, info: &[u8], parity: &[u8], capture: &mut [u8]) {
     say_coded(r, capture);
 }
 
-fn damaged(n: u64, m0: u64, g: Generator, info: &mut [u8], parity: &mut [u8], capture: &mut [u8]) {
+// An edit, then damage, then reading into buffers that hold what was there before the edit.
+fn hurt(
+    n: u64,
+    m0: u64,
+    g: Generator,
+    info: &mut [u8],
+    parity: &mut [u8],
+    capture: &mut [u8],
+) -> Generator {
     let h = edit(n, g, capture);
     let k = turn_all(h, capture);
     read(n, m0, capture, info, parity);
-    edit(n, k, capture);
+    k
+}
+
+// The second time the edit meets a damaged word, and the damage is beyond repair.
+fn twice(n: u64, m0: u64, g: Generator, info: &mut [u8], parity: &mut [u8], capture: &mut [u8]) {
+    let h = hurt(n, m0, g, info, parity, capture);
+    hurt(n, m0, h, info, parity, capture);
 }
 
 fn case(n: u64, seed: u64, m0: u64, info: &mut [u8], parity: &mut [u8], capture: &mut [u8]) {
     let g = made::fill(made::fill(made::start(seed), info), parity);
     name(n, seed, m0);
     code(n, m0, info, parity, capture);
-    damaged(n, m0, g, info, parity, capture);
+    twice(n, m0, g, info, parity, capture);
 }
 
 fn sized(n: u64, seed: u64, m0: u64) {

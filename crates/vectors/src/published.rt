@@ -67,11 +67,15 @@ fn level(v: i8) {
     }
 }
 
+fn four_bits(n: u8) {
+    let bits = [48 + n / 8 % 2, 48 + n / 4 % 2, 48 + n / 2 % 2, 48 + n % 2];
+    said::text(&bits);
+}
+
 // Four bits, and the levels that they have in the X and in the Y polarization.
 fn table_12_row(n: u8) {
-    let bits = [48 + n / 8 % 2, 48 + n / 4 % 2, 48 + n / 2 % 2, 48 + n % 2];
     said::text(b"Table 12: ");
-    said::text(&bits);
+    four_bits(n);
     let s = symbols::symbol_of(n % 16 * 17);
     level(s.xi);
     level(s.xq);

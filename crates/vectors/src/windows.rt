@@ -1,14 +1,11 @@
 // Windows from many seeds, mapped and unmapped. The generator gives C, f, n, the groups and the window before the call.
-use answer::Answer;
 use made::Generator;
 
-// Where d is odd, the last four bits of the groups are zero.
-fn clear_last(groups: &mut [u8], d: u64) {
-    if d % 2 == 1 {
-        if 0 < groups.len() {
-            let k = groups.len() - 1;
-            groups[k] = groups[k] & 240;
-        }
+// Where there are groups, their last four bits become zero: the spare ones if d is odd.
+fn clear_last(groups: &mut [u8]) {
+    let n = groups.len();
+    if 0 < n {
+        groups[n - 1] = groups[n - 1] & 240;
     }
 }
 
@@ -19,35 +16,32 @@ fn say_numbers(seed: u64, c: u64, f: u64, n: u64) {
     said::number(b" n ", n);
 }
 
-fn say_mapped(r: Answer, window: &[u8]) {
-    said::outcome(b": ", r);
+fn map(c: u64, f: u64, n: u64, groups: &[u8], window: &mut [u8]) {
+    said::digest(b" groups ", groups);
+    said::outcome(b" map: ", gmp::map(c, f, n, groups, window));
     said::digest(b" window ", window);
 }
 
-fn say_back(r: Answer, groups: &[u8], given: u64) {
-    said::outcome(b" unmap ", r);
+fn unmap(c: u64, f: u64, n: u64, window: &[u8], groups: &mut [u8]) {
+    said::outcome(b" unmap: ", gmp::unmap(c, f, n, window, groups));
     said::digest(b" groups ", groups);
-    said::hex(b" given ", given);
     said::text(b"\n");
 }
 
-fn map(c: u64, f: u64, n: u64, groups: &[u8], window: &mut [u8]) {
-    let r = gmp::map(c, f, n, groups, window);
-    say_mapped(r, window);
-}
-
-fn unmap(c: u64, f: u64, n: u64, groups: &mut [u8], window: &[u8]) {
-    let given = made::digest(groups);
-    let r = gmp::unmap(c, f, n, window, groups);
-    say_back(r, groups, given);
-}
-
-fn window(c: u64, f: u64, n: u64, d: u64, g: Generator, groups: &mut [u8], window: &mut [u8]) {
+fn window(
+    c: u64,
+    f: u64,
+    n: u64,
+    g: Generator,
+    groups: &mut [u8],
+    window: &mut [u8],
+    back: &mut [u8],
+) {
     let h = made::fill(g, groups);
-    clear_last(groups, d);
+    clear_last(groups);
     made::fill(h, window);
     map(c, f, n, groups, window);
-    unmap(c, f, n, groups, window);
+    unmap(c, f, n, window, back);
 }
 
 // The data places among f .. f + n - 1: the first j places hold floor(j C / P) of them.
@@ -67,16 +61,18 @@ fn least(a: u64, b: u64) -> u64 {
 // What stands before f is f - 1 places, and at most 80 places are mapped.
 fn sized(c: u64, f: u64, n: u64, g: Generator) {
     let d = data_places(c, (f % 10221 + 10219) % 10220, n) % 81;
+    let size = ((257 * d + 1) / 2) as usize;
     let mut groups = [0u8; 10281];
     let mut space = [0u8; 10281];
+    let mut back = [60u8; 10281];
     window(
         c,
         f,
         n,
-        d,
         g,
-        &mut groups[0..((257 * d + 1) / 2) as usize],
+        &mut groups[0..size],
         &mut space[0..(257 * (n % 81) / 2) as usize],
+        &mut back[0..size],
     );
 }
 
