@@ -1165,8 +1165,8 @@ fn stuff_runs(c: u64) -> String {
 /// repair. Where coding is refused the capture is the one that stood there: zeros, which pass their checks.
 fn vector(n: u64, seed: u64, m0: u64) -> String {
     let mut generator = Generator::new(seed);
-    let mut information = generator.bytes(capture::information_length(n));
-    let mut parity = generator.bytes(capture::parity_length(n));
+    let information = generator.bytes(capture::information_length(n));
+    let parity = generator.bytes(capture::parity_length(n));
     let mut captured = vec![0u8; capture::capture_length(n)];
     let answer = capture::code(n, m0, &information, &parity, &mut captured);
     let mut text = format!("N {} seed {} m0 {}: {}", n, seed, m0, shown(answer));
@@ -1180,6 +1180,8 @@ fn vector(n: u64, seed: u64, m0: u64) -> String {
                 flip(&mut captured, w, bit);
             }
         }
+        let mut information = vec![0u8; information.len()];
+        let mut parity = vec![0u8; parity.len()];
         let answer = capture::read(n, m0, &captured, &mut information, &mut parity);
         text += &both_digests(&format!(" damaged: {}", shown(answer)), &information, &parity);
     }
@@ -1198,20 +1200,20 @@ fn vector_edit(n: u64, generator: &mut Generator, captured: &mut [u8]) -> String
     format!(" block {}: {} {}\n", block, shown(answer), digests)
 }
 
-/// A window from one seed: the generator gives C, f, n, the groups, whose last four bits become zero, and what stands
-/// in the window before. The groups come back into bytes 60.
+/// A window from one seed: the generator gives C, f, n and the groups, whose last four bits become zero. They are mapped
+/// into bytes 90 and come back into bytes 60.
 fn vector_window(seed: u64) -> String {
     let mut generator = Generator::new(seed);
     let c = generator.below(gmp::PLACES + 1);
-    let f = 2 * generator.below(gmp::PLACES / 2) + 1;
-    let left = (gmp::PLACES + 1 - f) / 2;
-    let n = 2 + 2 * generator.below(if left < 40 { left } else { 40 });
+    // At most 80 places, and a first place that leaves room for them.
+    let f = 2 * generator.below((gmp::PLACES - 80) / 2 + 1) + 1;
+    let n = 2 * generator.below(40) + 2;
     let d = gmp::data_places(c, f, n);
     let mut groups = generator.bytes(gmp::groups_length(d) as usize);
     if let Some(last) = groups.last_mut() {
         *last &= 0xf0;
     }
-    let mut window = generator.bytes(gmp::window_length(n) as usize);
+    let mut window = vec![90u8; gmp::window_length(n) as usize];
     let answer = gmp::map(c, f, n, &groups, &mut window);
     let mut text = format!("seed {} C {} f {} n {} groups {}", seed, c, f, n, digest(&groups));
     text += &format!(" map: {} window {}", shown(answer), digest(&window));

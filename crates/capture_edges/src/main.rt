@@ -143,7 +143,7 @@ fn case(n: u64, info: &mut [u8], parity: &mut [u8], capture: &mut [u8]) {
 fn sized(n: u64, m: usize) {
     let k = m % 9;
     let mut info = space::info_8();
-    let mut parity = [0u8; 81920];
+    let mut parity = space::info_8();
     let mut capture = space::capture_8();
     case(
         n,

@@ -73,57 +73,73 @@ fn turn_all(g: Generator, capture: &mut [u8]) -> Generator {
     h
 }
 
-fn read(n: u64, m0: u64, capture: &[u8], info: &mut [u8], parity: &mut [u8]) {
+fn read_into(n: u64, m0: u64, capture: &[u8], info: &mut [u8], parity: &mut [u8]) {
     let r = capture::read(n, m0, capture, info, parity);
     say_read(r, info, parity);
 }
 
-fn code(n: u64, m0: u64, info: &[u8], parity: &[u8], capture: &mut [u8]) {
-    let r = capture::code(n, m0, info, parity, capture);
-    say_coded(r, capture);
+// Into zeros.
+fn read(n: u64, m0: u64, capture: &[u8]) {
+    let k = (n % 9) as usize;
+    let mut info = space::info_8();
+    let mut parity = space::info_8();
+    read_into(
+        n,
+        m0,
+        capture,
+        &mut info[0..152915 * k],
+        &mut parity[0..10240 * k],
+    );
 }
 
-// An edit, then damage, then reading into buffers that hold what was there before the edit.
-fn hurt(
+fn code_from(
     n: u64,
     m0: u64,
     g: Generator,
+    capture: &mut [u8],
     info: &mut [u8],
     parity: &mut [u8],
-    capture: &mut [u8],
 ) -> Generator {
+    let h = made::fill(made::fill(g, info), parity);
+    let r = capture::code(n, m0, info, parity, capture);
+    say_coded(r, capture);
+    h
+}
+
+fn code(n: u64, m0: u64, g: Generator, capture: &mut [u8]) -> Generator {
+    let k = (n % 9) as usize;
+    let mut info = space::info_8();
+    let mut parity = space::info_8();
+    code_from(
+        n,
+        m0,
+        g,
+        capture,
+        &mut info[0..152915 * k],
+        &mut parity[0..10240 * k],
+    )
+}
+
+fn hurt(n: u64, m0: u64, g: Generator, capture: &mut [u8]) -> Generator {
     let h = edit(n, g, capture);
     let k = turn_all(h, capture);
-    read(n, m0, capture, info, parity);
+    read(n, m0, capture);
     k
 }
 
-// The second time the edit meets a damaged word, and the damage is beyond repair.
-fn twice(n: u64, m0: u64, g: Generator, info: &mut [u8], parity: &mut [u8], capture: &mut [u8]) {
-    let h = hurt(n, m0, g, info, parity, capture);
-    hurt(n, m0, h, info, parity, capture);
-}
-
-fn case(n: u64, seed: u64, m0: u64, info: &mut [u8], parity: &mut [u8], capture: &mut [u8]) {
-    let g = made::fill(made::fill(made::start(seed), info), parity);
+// Where coding is refused the capture stays as it is: zeros, which pass their checks. The second time the edit meets a damaged word, and the damage
+// is beyond repair.
+fn case(n: u64, seed: u64, m0: u64, capture: &mut [u8]) {
     name(n, seed, m0);
-    code(n, m0, info, parity, capture);
-    twice(n, m0, g, info, parity, capture);
+    let g = code(n, m0, made::start(seed), capture);
+    let h = hurt(n, m0, g, capture);
+    hurt(n, m0, h, capture);
 }
 
 fn sized(n: u64, seed: u64, m0: u64) {
     let k = (n % 9) as usize;
-    let mut info = space::info_8();
-    let mut parity = [0u8; 81920];
     let mut capture = space::capture_8();
-    case(
-        n,
-        seed,
-        m0,
-        &mut info[0..152915 * k],
-        &mut parity[0..10240 * k],
-        &mut capture[0..175616 * k + 7680],
-    );
+    case(n, seed, m0, &mut capture[0..175616 * k + 7680]);
 }
 
 // The first and the last m0, and the one past it, which is refused; then those between, nine apart.

@@ -1,4 +1,4 @@
-// Windows from many seeds, mapped and unmapped. The generator gives C, f, n, the groups and the window before the call.
+// Windows from many seeds, mapped and unmapped. The generator gives C, f, n and the groups.
 use made::Generator;
 
 // Where there are groups, their last four bits become zero: the spare ones if d is odd.
@@ -37,9 +37,8 @@ fn window(
     window: &mut [u8],
     back: &mut [u8],
 ) {
-    let h = made::fill(g, groups);
+    made::fill(g, groups);
     clear_last(groups);
-    made::fill(h, window);
     map(c, f, n, groups, window);
     unmap(c, f, n, window, back);
 }
@@ -54,16 +53,12 @@ fn data_places(c: u64, f: u64, n: u64) -> u64 {
     upto - before
 }
 
-fn least(a: u64, b: u64) -> u64 {
-    if a < b { a } else { b }
-}
-
 // What stands before f is f - 1 places, and at most 80 places are mapped.
 fn sized(c: u64, f: u64, n: u64, g: Generator) {
     let d = data_places(c, (f % 10221 + 10219) % 10220, n) % 81;
     let size = ((257 * d + 1) / 2) as usize;
     let mut groups = [0u8; 10281];
-    let mut space = [0u8; 10281];
+    let mut space = [90u8; 10281];
     let mut back = [60u8; 10281];
     window(
         c,
@@ -81,8 +76,8 @@ fn windows(seed: u64) {
     let g2 = made::step(g1);
     let g3 = made::step(g2);
     let c = made::below(g1, 10221);
-    let f = 2 * (made::below(g2, 5110) % 5110) + 1;
-    let n = 2 + 2 * (made::below(g3, least(40, (10221 - f) / 2)) % 40);
+    let f = 2 * (made::below(g2, 5071) % 5071) + 1;
+    let n = 2 * (made::below(g3, 40) % 40) + 2;
     say_numbers(seed, c, f, n);
     sized(c, f, n, g3);
 }
