@@ -1047,12 +1047,12 @@ fn edge_window(c: u64, f: u64, n: u64, length: usize) -> String {
     let before = digest(&window);
     let answer = gmp::map(c, f, n, &given, &mut window);
     let mut text = format!("C {} f {} n {} map: {}", c, f, n, shown(answer));
-    text += &change("", before, digest(&window));
+    text += &change(" window", before, digest(&window));
     let mut groups = vec![60u8; length];
     let before = digest(&groups);
     let answer = gmp::unmap(c, f, n, &window, &mut groups);
     text += &format!("\nC {} f {} n {} unmap: {}", c, f, n, shown(answer));
-    text + &change("", before, digest(&groups)) + "\n"
+    text + &change(" groups", before, digest(&groups)) + "\n"
 }
 
 /// The digests of a buffer before a call and after it.
@@ -1102,7 +1102,7 @@ fn capture_edge(n: u64, buffers: u64) -> String {
     text += &change(" parity", parity_before, digest(&parity));
     text += "\n";
 
-    // The last client block and the first past it. There is no last block of no super frame: it is one far past the end.
+    // The last client block and the first past it. No super frame has no last block: a block far past its end.
     let first_past = 4_760 * n;
     let last = if n == 0 { 47_599 } else { first_past - 1 };
     text += &edge_edit(n, last, &mut captured);

@@ -8,9 +8,9 @@ fn name(c: u64, f: u64, n: u64) {
     said::number(b" n ", n);
 }
 
-fn say(call: &[u8], r: Answer, before: u64, after: u64) {
+fn say(call: &[u8], r: Answer, name: &[u8], before: u64, after: u64) {
     said::outcome(call, r);
-    said::hex(b" before ", before);
+    said::hex(name, before);
     said::hex(b" after ", after);
     said::text(b"\n");
 }
@@ -26,14 +26,26 @@ fn map(c: u64, f: u64, n: u64, groups: &[u8], window: &mut [u8]) {
     let before = made::digest(window);
     let r = gmp::map(c, f, n, groups, window);
     name(c, f, n);
-    say(b" map: ", r, before, made::digest(window));
+    say(
+        b" map: ",
+        r,
+        b" window before ",
+        before,
+        made::digest(window),
+    );
 }
 
 fn unmap(c: u64, f: u64, n: u64, window: &[u8], groups: &mut [u8]) {
     let before = made::digest(groups);
     let r = gmp::unmap(c, f, n, window, groups);
     name(c, f, n);
-    say(b" unmap: ", r, before, made::digest(groups));
+    say(
+        b" unmap: ",
+        r,
+        b" groups before ",
+        before,
+        made::digest(groups),
+    );
 }
 
 fn there_and_back(c: u64, f: u64, n: u64, groups: &mut [u8], window: &mut [u8], back: &mut [u8]) {
