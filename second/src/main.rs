@@ -17,7 +17,7 @@ use std::io::{Read, Write};
 
 const USAGE: &str = "usage: second NAME\n\
     NAME is one of: gmp_runs [LINE], table7, gmp_lines, hamming_words, coded, readings, edits, windows,\n\
-    places, parts, edges, vectors, zr, selftest. gmp_runs without LINE reads standard input.\n";
+    places, parts, edges, capture_edges, vectors, zr, selftest. gmp_runs without LINE reads standard input.\n";
 
 fn main() {
     let arguments: Vec<std::ffi::OsString> = std::env::args_os().collect();
@@ -49,6 +49,7 @@ fn main() {
         "parts" => texts::parts(),
         "zr" => texts::zr(),
         "edges" => texts::edges(),
+        "capture_edges" => texts::capture_edges(),
         "vectors" => texts::vectors(),
         "selftest" => selftest::run_all(),
         _ => {

@@ -20,6 +20,7 @@ const CAPTURE_SEED: u64 = 999;
 const INFORMATION_SEED: u64 = 998;
 const PARITY_SEED: u64 = 997;
 const LIST_SEED: u64 = 996;
+const GROUPS_SEED: u64 = 995;
 
 fn shown(answer: Answer) -> String {
     format!("number {} place {} count {}", answer.number, answer.place, answer.count)
@@ -971,21 +972,30 @@ fn part_line(label: &str, n: u64, t: u64, information: &[u8]) -> String {
 
 // ---------------------------------------------------------------- edges
 
-/// The published values and the starred cases of document 01, section "Both sides of each edge".
-/// The other cases of that section stand in the texts of gmp_lines, coded, readings and edits.
+/// Document 01, section "Both sides of each edge": the published values and the starred cases, then the counts and
+/// windows that a program runs.
 pub fn edges() -> String {
+    published_numbers() + &starred_cases() + &edge_places()
+}
+
+fn published_numbers() -> String {
     let mut text = String::new();
     let nine = bits_of_bytes(b"123456789");
     text += &format!("CRC of 123456789: {}\n", hex(number_of_bits(&fec::crc(&nine))));
     let zeros = bits_of_bytes(&vec![0u8; fec::INFORMATION_BYTES]);
     text += &format!("CRC of 30583 zero bytes: {}\n", hex(number_of_bits(&fec::crc(&zeros))));
     let scrambler = super_frame::scrambler(super_frame::BITS);
-    text += &format!("scrambler bits 0 to 31: {}\n", hex(number_of_bits(&scrambler[0..32])));
+    text += &format!("scrambler from bit 0 on: {}\n", word_in_hex(&scrambler[0..WORD_BITS]));
     let pad = super_frame::PAD_START;
     text += &format!(
-        "scrambled pad bits 0 to 31: {}\n",
-        hex(number_of_bits(&scrambler[pad..pad + 32]))
+        "scrambled pad from bit 0 on: {}\n",
+        word_in_hex(&scrambler[pad..pad + WORD_BITS])
     );
+    text
+}
+
+fn starred_cases() -> String {
+    let mut text = String::new();
     for (c, j) in [
         (0, 1),
         (10_220, 10_220),
@@ -995,96 +1005,232 @@ pub fn edges() -> String {
         (10_217, 3_407),
         (10_217, 3_408),
     ] {
-        text += &format!("C {} place {}: {}\n", c, j, kind_name(gmp::kind(c, j)));
+        text += &edge_place(c, j);
     }
     let slots = interleaver::slots(2);
     for w in [480, 15, 496, 11_456] {
         text += &format!("word {}: element {}\n", w, slots[w].unwrap());
     }
     text += &format!("word 9 symbol 2: byte {}\n", symbols::byte_place(9, 2));
+    let zeros = vec![false; super_frame::ELEMENT_BITS];
+    text += &format!("element of zeros: word {}\n", word_in_hex(&Matrix::new().encode(&zeros)));
     text
+}
+
+fn edge_place(c: u64, j: u64) -> String {
+    let (answer, kind, last) = gmp::run_at(c, j);
+    format!(
+        "C {} place {}: number {} last {} {}\n",
+        c,
+        j,
+        answer.number,
+        last,
+        kind_name(kind)
+    )
+}
+
+/// A count that is none, the last window of all, and one that would end past the last place. The lengths are those of
+/// n places that are all data.
+fn edge_places() -> String {
+    let mut text = edge_place(10_221, 1);
+    text += &format!("C 10221 place 1 runs: {}\n", shown(gmp::count_runs(10_221, 1)));
+    text += &edge_window(10_221, 1, 2, 257);
+    text += &edge_window(10_220, 10_219, 2, 257);
+    text += &edge_window(10_220, 10_219, 4, 514);
+    text
+}
+
+/// Maps generated groups into a window of bytes 90, then unmaps that into groups of bytes 60.
+fn edge_window(c: u64, f: u64, n: u64, length: usize) -> String {
+    let given = bytes_from_seed(GROUPS_SEED, length);
+    let mut window = vec![90u8; length];
+    let before = digest(&window);
+    let answer = gmp::map(c, f, n, &given, &mut window);
+    let mut text = format!("C {} f {} n {} map: {}", c, f, n, shown(answer));
+    text += &change(" window", before, digest(&window));
+    let mut groups = vec![60u8; length];
+    let before = digest(&groups);
+    let answer = gmp::unmap(c, f, n, &window, &mut groups);
+    text += &format!("\nC {} f {} n {} unmap: {}", c, f, n, shown(answer));
+    text + &change(" groups", before, digest(&groups)) + "\n"
+}
+
+/// The digests of a buffer before a call and after it.
+fn change(name: &str, before: String, after: String) -> String {
+    format!("{} before {} after {}", name, before, after)
+}
+
+// ---------------------------------------------------------------- capture_edges
+
+/// The same section: no super frame and nine, the last client block and the first past it, one flip in every word.
+/// The same calls for each N from 0 to 9. For 0 and 9 the buffers are those of 1 and of 8 super frames.
+pub fn capture_edges() -> String {
+    let mut text = String::new();
+    for n in 0..=9 {
+        text += &capture_edge(n, n.clamp(1, 8));
+    }
+    text
+}
+
+fn capture_edge(n: u64, buffers: u64) -> String {
+    let mut generator = Generator::new(100 + n);
+    let mut information = generator.bytes(capture::information_length(buffers));
+    let mut parity = generator.bytes(capture::parity_length(buffers));
+    let mut captured = bytes_from_seed(CAPTURE_SEED, capture::capture_length(buffers));
+    let m0 = 7;
+
+    let (answer, part) = capture::part(n, 0, &information);
+    let mut text = format!("N {} part 0: {} bytes {}\n", n, shown(answer), part.len());
+
+    let before = digest(&captured);
+    let answer = capture::code(n, m0, &information, &parity, &mut captured);
+    text += &format!("N {} code: {}", n, shown(answer));
+    text += &change(" capture", before, digest(&captured));
+    text += &both_digests("", &information, &parity);
+
+    let mut damaged = captured.clone();
+    for w in 0..damaged.len() / 16 {
+        flip(&mut damaged, w, (w * 37 + 11) % WORD_BITS);
+    }
+    information = bytes_from_seed(INFORMATION_SEED, information.len());
+    parity = bytes_from_seed(PARITY_SEED, parity.len());
+    let before = [digest(&information), digest(&parity)];
+    let answer = capture::read(n, m0, &damaged, &mut information, &mut parity);
+    text += &format!("N {} read, one flip in every word: {}", n, shown(answer));
+    let [information_before, parity_before] = before;
+    text += &change(" information", information_before, digest(&information));
+    text += &change(" parity", parity_before, digest(&parity));
+    text += "\n";
+
+    // The last client block and the first past it. No super frame has no last block: a block far past its end.
+    let first_past = 4_760 * n;
+    let last = if n == 0 { 47_599 } else { first_past - 1 };
+    text += &edge_edit(n, last, &mut captured);
+    text += &edge_edit(n, first_past, &mut captured);
+    text
+}
+
+/// 33 bytes 128, the parity all bytes 90, and a list of sevens.
+fn edge_edit(n: u64, block: u64, captured: &mut [u8]) -> String {
+    let mut list = [7u64; capture::LIST_LENGTH];
+    let before = digest(captured);
+    let list_before = digest_of_numbers(&list);
+    let answer = capture::edit(n, block, &[128; 33], &[90; fec::PARITY_BYTES], captured, &mut list);
+    let mut text = format!("N {} edit of block {}: {}", n, block, shown(answer));
+    text += &change(" capture", before, digest(captured));
+    text + &change(" list", list_before, digest_of_numbers(&list)) + "\n"
 }
 
 // ---------------------------------------------------------------- vectors
 
-/// A capture of n super frames from one seed: coded, edited, damaged, read, and edited once more.
-/// One generator gives information, parity, the two block numbers, the client block and its parity, and then for
-/// each word whether one of its bits is turned, and which.
+/// The vectors that the documents publish: the CRC's check value, the scrambler's first 24 bits, 001 Tables 7 and 12.
+fn published_vectors() -> String {
+    let check = fec::crc(&bits_of_bytes(b"123456789"));
+    let mut text = format!("CRC of 123456789: {}\n", hex(number_of_bits(&check)));
+    let first = bytes_of_bits(&super_frame::scrambler(24));
+    text += &format!(
+        "scrambler bits 0 to 23: {:02x}{:02x}{:02x}\n",
+        first[0], first[1], first[2]
+    );
+    for c in TABLE_7_COUNTS {
+        text += &format!("Table 7: C {} stuff{}\n", c, stuff_runs(c));
+    }
+    for row in 0..16 {
+        text += &format!("Table 12: {:04b}", row);
+        for level in symbols::levels(row * 16 + row) {
+            text += &format!(" {}", level);
+        }
+        text += "\n";
+    }
+    text
+}
+
+/// The stuff runs of a count, each with its first and its last place.
+fn stuff_runs(c: u64) -> String {
+    let mut text = String::new();
+    let mut first = 1;
+    while first <= gmp::PLACES {
+        let (_, kind, last) = gmp::run_at(c, first);
+        if kind == Kind::Stuff {
+            text += &format!(" {}-{}", first, last);
+        }
+        first = last + 1;
+    }
+    text
+}
+
+/// A capture of n super frames from one seed: coded, then twice edited, damaged and read.
+/// One generator gives information and parity; then each time the block, the client block and its parity, and for each
+/// word whether one of its bits is turned, and which. The second time the edit meets damage, and words are beyond
+/// repair. Where coding is refused the capture is the one that stood there: zeros, which pass their checks.
 fn vector(n: u64, seed: u64, m0: u64) -> String {
     let mut generator = Generator::new(seed);
     let information = generator.bytes(capture::information_length(n));
     let parity = generator.bytes(capture::parity_length(n));
     let mut captured = vec![0u8; capture::capture_length(n)];
     let answer = capture::code(n, m0, &information, &parity, &mut captured);
-    let mut text = format!("N {} seed {} m0 {}: {} capture {}\n", n, seed, m0, shown(answer), digest(&captured));
-
-    let first = generator.below(4_760 * n);
-    let second = generator.below(4_760 * n);
-    let mut client = generator.bytes(33);
-    client[32] &= 0x80;
-    let new_parity = generator.bytes(fec::PARITY_BYTES);
-    text += &vector_edit(n, first, &client, &new_parity, &mut captured);
-    for w in 0..interleaver::words(n as usize) {
-        let turned = generator.below(3) == 0;
-        let bit = generator.below(128) as usize;
-        if turned {
-            flip(&mut captured, w, bit);
+    let mut text = format!("N {} seed {} m0 {}: {}", n, seed, m0, shown(answer));
+    text += &format!(" capture {}\n", digest(&captured));
+    for _ in 0..2 {
+        text += &vector_edit(n, &mut generator, &mut captured);
+        for w in 0..interleaver::words(n as usize) {
+            let turned = generator.below(3) == 0;
+            let bit = generator.below(128) as usize;
+            if turned {
+                flip(&mut captured, w, bit);
+            }
         }
+        let mut information = vec![0u8; information.len()];
+        let mut parity = vec![0u8; parity.len()];
+        let answer = capture::read(n, m0, &captured, &mut information, &mut parity);
+        text += &both_digests(&format!(" damaged: {}", shown(answer)), &information, &parity);
     }
-    text += &reading(
-        " damaged",
-        n,
-        m0,
-        &captured,
-        capture::information_length(n),
-        capture::parity_length(n),
-    );
-    text + &vector_edit(n, second, &client, &new_parity, &mut captured)
-}
-
-fn vector_edit(n: u64, block: u64, client: &[u8], parity: &[u8], captured: &mut [u8]) -> String {
-    edited(
-        &format!(" block {}", block),
-        n,
-        block,
-        client,
-        parity,
-        captured,
-        capture::LIST_LENGTH,
-    )
-}
-
-/// A window from one seed: the generator gives C, f, n and the groups.
-fn vector_window(seed: u64) -> String {
-    let mut generator = Generator::new(seed);
-    let c = generator.below(gmp::PLACES + 1);
-    let f = 2 * generator.below(gmp::PLACES / 2) + 1;
-    let left = (gmp::PLACES + 1 - f) / 2;
-    let n = 2 + 2 * generator.below(if left < 40 { left } else { 40 });
-    let d = gmp::data_places(c, f, n);
-    let mut groups = generator.bytes(gmp::groups_length(d) as usize);
-    if d % 2 == 1 {
-        let last = groups.len() - 1;
-        groups[last] &= 0xf0;
-    }
-    let mut window = generator.bytes(gmp::window_length(n) as usize);
-    let answer = gmp::map(c, f, n, &groups, &mut window);
-    let mut text = format!("seed {} C {} f {} n {}: {} window {}", seed, c, f, n, shown(answer), digest(&window));
-    let given = digest(&groups);
-    let answer = gmp::unmap(c, f, n, &window, &mut groups);
-    text += &format!(" unmap {} groups {} given {}\n", shown(answer), digest(&groups), given);
     text
 }
 
-/// Seeds 1,001 to 1,008: N from 1 to 8, m0 0 and 63 in turn. Seeds 1,101 to 1,108: N = 1, m0 9 apart.
-/// Seeds 3,001 to 3,040: windows.
-pub fn vectors() -> String {
-    let mut text = String::new();
-    for n in 1..=8 {
-        text += &vector(n, 1_000 + n, if n % 2 == 1 { 0 } else { 63 });
+/// An edit with a list that stands full of sevens.
+fn vector_edit(n: u64, generator: &mut Generator, captured: &mut [u8]) -> String {
+    let block = generator.below(4_760 * n);
+    let mut client = generator.bytes(33);
+    client[32] &= 0x80;
+    let parity = generator.bytes(fec::PARITY_BYTES);
+    let mut list = [7u64; capture::LIST_LENGTH];
+    let answer = capture::edit(n, block, &client, &parity, captured, &mut list);
+    let digests = format!("capture {} list {}", digest(captured), digest_of_numbers(&list));
+    format!(" block {}: {} {}\n", block, shown(answer), digests)
+}
+
+/// A window from one seed: the generator gives C, f, n and the groups, whose last four bits become zero. They are mapped
+/// into bytes 90 and come back into bytes 60.
+fn vector_window(seed: u64) -> String {
+    let mut generator = Generator::new(seed);
+    let c = generator.below(gmp::PLACES + 1);
+    // At most 80 places, and a first place that leaves room for them.
+    let f = 2 * generator.below((gmp::PLACES - 80) / 2 + 1) + 1;
+    let n = 2 * generator.below(40) + 2;
+    let d = gmp::data_places(c, f, n);
+    let mut groups = generator.bytes(gmp::groups_length(d) as usize);
+    if let Some(last) = groups.last_mut() {
+        *last &= 0xf0;
     }
-    for k in 0..8 {
-        text += &vector(1, 1_101 + k, 9 * k);
+    let mut window = vec![90u8; gmp::window_length(n) as usize];
+    let answer = gmp::map(c, f, n, &groups, &mut window);
+    let mut text = format!("seed {} C {} f {} n {} groups {}", seed, c, f, n, digest(&groups));
+    text += &format!(" map: {} window {}", shown(answer), digest(&window));
+    let mut back = vec![60u8; groups.len()];
+    let answer = gmp::unmap(c, f, n, &window, &mut back);
+    text += &format!(" unmap: {} groups {}\n", shown(answer), digest(&back));
+    text
+}
+
+/// For each N from 1 to 8 the first and the last m0 and the one past it, and N = 1 with an m0 between; then windows.
+pub fn vectors() -> String {
+    let mut text = published_vectors();
+    for n in 1..=8 {
+        text += &vector(n, 1_000 + n, 0);
+        text += &vector(n, 1_100 + n, 63);
+        text += &vector(n, 1_200 + n, 64);
+        text += &vector(1, 1_300 + n, 9 * (n % 8));
     }
     for seed in 3_001..=3_040 {
         text += &vector_window(seed);

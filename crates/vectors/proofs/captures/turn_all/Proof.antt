@@ -1,28 +1,25 @@
--- `edges::fill` is safe and ends. Assumes nothing.
+-- `vectors::captures::turn_all` is safe and ends. Assumes nothing.
 use Prim.Native.Nat.{_-_}
 use mathlib.Core.Path.{_≡_}
 use lib.ListN.{length}
 use borrow.Author.Needs.{needs}
-use Rattle.edges.proofs.fill.Statement.{statement}
-use Rattle.edges.proofs.fill.Tie as tie
+use Rattle.vectors.proofs.captures.turn_all.Statement.{statement}
+use Rattle.vectors.proofs.captures.turn_all.Tie as tie
 
 abbrev Inv-loop : tie.InvT-loop
-Inv-loop s₀ k₀ k-end s k = length s ≡ length s₀
+Inv-loop capture₀ h₀ w₀ w-end capture h w = length capture ≡ length capture₀
 
 abbrev μ-loop : tie.MeasureT-loop
-μ-loop s₀ k₀ k-end s k = k-end - k
+μ-loop capture₀ h₀ w₀ w-end capture h w = w-end - w
 
 loop-holds : tie.Need-loop-holds Inv-loop μ-loop
 loop-holds c = search needs
 
-cast-s : tie.Need-cast-s Inv-loop μ-loop
-cast-s c = search needs
+turn-some-requires : tie.Need-turn-some-requires Inv-loop μ-loop
+turn-some-requires c κs = search needs
 
-slice-write-s : tie.Need-slice-write-s Inv-loop μ-loop
-slice-write-s c = search needs
-
-add-k : tie.Need-add-k Inv-loop μ-loop
-add-k c = search needs
+add-w : tie.Need-add-w Inv-loop μ-loop
+add-w c = search needs
 
 loop-less : tie.Need-loop-less Inv-loop μ-loop
 loop-less c = search needs
@@ -36,16 +33,15 @@ same-length c = search needs
 returns : tie.Need-returns Inv-loop μ-loop
 returns c = search needs
 
-pub fill-spec : {M : Type 1} → statement M
-fill-spec =
+pub turn-all-spec : {M : Type 1} → statement M
+turn-all-spec =
     tie.close
     (tie.spec
     Inv-loop
     μ-loop
     loop-holds
-    cast-s
-    slice-write-s
-    add-k
+    turn-some-requires
+    add-w
     loop-less
     loop-again
     same-length

@@ -1,20 +1,14 @@
--- `vectors::main` ends. Assumes nothing.
+-- `vectors::windows::vectors` ends. Assumes nothing.
 use Prim.Native.Nat.{_-_, _≤_}
 use borrow.Author.Needs.{needs}
-use Rattle.vectors.proofs.main.Statement.{statement}
-use Rattle.vectors.proofs.main.Tie as tie
+use Rattle.vectors.proofs.windows.vectors.Statement.{statement}
+use Rattle.vectors.proofs.windows.vectors.Tie as tie
 
 abbrev Inv-loop : tie.InvT-loop
 Inv-loop seed₀ seed = seed ≤ 3041
 
 abbrev μ-loop : tie.MeasureT-loop
 μ-loop seed₀ seed = 3041 - seed
-
-each-length-requires : tie.Need-each-length-requires Inv-loop μ-loop
-each-length-requires c κs = search needs
-
-each-number-requires : tie.Need-each-number-requires Inv-loop μ-loop
-each-number-requires c κs = search needs
 
 loop-holds : tie.Need-loop-holds Inv-loop μ-loop
 loop-holds c = search needs
@@ -34,17 +28,7 @@ loop-again c = search needs
 returns : tie.Need-returns Inv-loop μ-loop
 returns c = search needs
 
-pub main-spec : {M : Type 1} → statement M
-main-spec =
+pub vectors-spec : {M : Type 1} → statement M
+vectors-spec =
     tie.close
-    (tie.spec
-    Inv-loop
-    μ-loop
-    each-length-requires
-    each-number-requires
-    loop-holds
-    windows-requires
-    add-seed
-    loop-less
-    loop-again
-    returns)
+    (tie.spec Inv-loop μ-loop loop-holds windows-requires add-seed loop-less loop-again returns)

@@ -1,10 +1,10 @@
--- `vectors::data_places` is safe: the products are small. Assumes nothing.
+-- `vectors::windows::data_places` is safe: the products are small. Assumes nothing.
 use Prim.Native.Nat.{_+_, _*_, _%_, _≤_}
 use native.Mathlib.Nat.{mul-le-mul}
 use native.Mathlib.Omega.{arith}
 use borrow.Author.Needs.{needs}
-use Rattle.vectors.proofs.data_places.Statement.{statement}
-use Rattle.vectors.proofs.data_places.Tie as tie
+use Rattle.vectors.proofs.windows.data_places.Statement.{statement}
+use Rattle.vectors.proofs.windows.data_places.Tie as tie
 
 add-upto : tie.Need-add-upto
 add-upto c = search needs

@@ -1,0 +1,77 @@
+// A count that is none; the last window of all, and one that would end past the last place. The lengths are those of places that are all data. Digests before
+// and after a call show that a refusal changed nothing.
+use answer::Answer;
+
+fn name(c: u64, f: u64, n: u64) {
+    said::number(b"C ", c);
+    said::number(b" f ", f);
+    said::number(b" n ", n);
+}
+
+fn say(call: &[u8], r: Answer, name: &[u8], before: u64, after: u64) {
+    said::outcome(call, r);
+    said::hex(name, before);
+    said::hex(b" after ", after);
+    said::text(b"\n");
+}
+
+fn runs(c: u64, j: u64) {
+    said::number(b"C ", c);
+    said::number(b" place ", j);
+    said::outcome(b" runs: ", gmp::runs(c, j));
+    said::text(b"\n");
+}
+
+fn map(c: u64, f: u64, n: u64, groups: &[u8], window: &mut [u8]) {
+    let before = made::digest(window);
+    let r = gmp::map(c, f, n, groups, window);
+    name(c, f, n);
+    say(
+        b" map: ",
+        r,
+        b" window before ",
+        before,
+        made::digest(window),
+    );
+}
+
+fn unmap(c: u64, f: u64, n: u64, window: &[u8], groups: &mut [u8]) {
+    let before = made::digest(groups);
+    let r = gmp::unmap(c, f, n, window, groups);
+    name(c, f, n);
+    say(
+        b" unmap: ",
+        r,
+        b" groups before ",
+        before,
+        made::digest(groups),
+    );
+}
+
+fn there_and_back(c: u64, f: u64, n: u64, groups: &mut [u8], window: &mut [u8], back: &mut [u8]) {
+    made::fill(made::start(995), groups);
+    map(c, f, n, groups, window);
+    unmap(c, f, n, window, back);
+}
+
+fn two_places(c: u64, f: u64) {
+    let mut groups = [0u8; 257];
+    let mut window = [90u8; 257];
+    let mut back = [60u8; 257];
+    there_and_back(c, f, 2, &mut groups, &mut window, &mut back);
+}
+
+fn four_places(c: u64, f: u64) {
+    let mut groups = [0u8; 514];
+    let mut window = [90u8; 514];
+    let mut back = [60u8; 514];
+    there_and_back(c, f, 4, &mut groups, &mut window, &mut back);
+}
+
+pub fn cases() {
+    crate::starred::place(10221, 1);
+    runs(10221, 1);
+    two_places(10221, 1);
+    two_places(10220, 10219);
+    four_places(10220, 10219);
+}

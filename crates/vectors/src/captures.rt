@@ -1,0 +1,153 @@
+// Captures of every length with every edge of m0, from many seeds. All that a case needs is made by one generator from its seed.
+use answer::Answer;
+use made::Generator;
+
+fn name(n: u64, seed: u64, m0: u64) {
+    said::number(b"N ", n);
+    said::number(b" seed ", seed);
+    said::number(b" m0 ", m0);
+}
+
+fn say_coded(r: Answer, capture: &[u8]) {
+    said::outcome(b": ", r);
+    said::digest(b" capture ", capture);
+    said::text(b"\n");
+}
+
+fn say_read(r: Answer, info: &[u8], parity: &[u8]) {
+    said::outcome(b" damaged: ", r);
+    said::digest(b" information ", info);
+    said::digest(b" parity ", parity);
+    said::text(b"\n");
+}
+
+fn say_edit(block: u64, r: Answer, capture: u64, list: u64) {
+    said::number(b" block ", block);
+    said::outcome(b": ", r);
+    said::hex(b" capture ", capture);
+    said::hex(b" list ", list);
+    said::text(b"\n");
+}
+
+fn edit_by(n: u64, block: u64, bits: &[u8], parity: &[u8], capture: &mut [u8]) {
+    let mut list = [7u64; 145];
+    let r = capture::edit(n, block, bits, parity, capture, &mut list);
+    say_edit(block, r, made::digest(capture), made::digest_numbers(&list));
+}
+
+// A client block, whose seven bits behind the 257 are zero, and the parity of its FEC block.
+fn edit(n: u64, g: Generator, capture: &mut [u8]) -> Generator {
+    let mut bits = [0u8; 33];
+    let mut parity = [0u8; 2048];
+    let first = made::step(g);
+    let h = made::fill(made::fill(first, &mut bits), &mut parity);
+    bits[32] = bits[32] & 128;
+    let block = made::below(first, 4760 * (n % 9));
+    edit_by(n, block, &bits, &parity, capture);
+    h
+}
+
+// The word that has bit i only.
+fn bit(i: usize) -> [u8; 16] {
+    let mut v = [0u8; 16];
+    let k = i % 128;
+    v[k / 8] = 128 >> (k % 8);
+    v
+}
+
+// Turns a bit of word w, in one of three words, and returns the generator as it then is.
+fn turn_some(g: Generator, capture: &mut [u8], w: usize) -> Generator {
+    let first = made::step(g);
+    let second = made::step(first);
+    if made::below(first, 3) == 0 {
+        damage::turn(capture, w, bit(made::below(second, 128) as usize));
+    }
+    second
+}
+
+fn turn_all(g: Generator, capture: &mut [u8]) -> Generator {
+    let mut h = g;
+    for w in 0..capture.len() / 16 {
+        h = turn_some(h, capture, w);
+    }
+    h
+}
+
+fn read_into(n: u64, m0: u64, capture: &[u8], info: &mut [u8], parity: &mut [u8]) {
+    let r = capture::read(n, m0, capture, info, parity);
+    say_read(r, info, parity);
+}
+
+// Into zeros.
+fn read(n: u64, m0: u64, capture: &[u8]) {
+    let k = (n % 9) as usize;
+    let mut info = space::info_8();
+    let mut parity = space::info_8();
+    read_into(
+        n,
+        m0,
+        capture,
+        &mut info[0..152915 * k],
+        &mut parity[0..10240 * k],
+    );
+}
+
+fn code_from(
+    n: u64,
+    m0: u64,
+    g: Generator,
+    capture: &mut [u8],
+    info: &mut [u8],
+    parity: &mut [u8],
+) -> Generator {
+    let h = made::fill(made::fill(g, info), parity);
+    let r = capture::code(n, m0, info, parity, capture);
+    say_coded(r, capture);
+    h
+}
+
+fn code(n: u64, m0: u64, g: Generator, capture: &mut [u8]) -> Generator {
+    let k = (n % 9) as usize;
+    let mut info = space::info_8();
+    let mut parity = space::info_8();
+    code_from(
+        n,
+        m0,
+        g,
+        capture,
+        &mut info[0..152915 * k],
+        &mut parity[0..10240 * k],
+    )
+}
+
+fn hurt(n: u64, m0: u64, g: Generator, capture: &mut [u8]) -> Generator {
+    let h = edit(n, g, capture);
+    let k = turn_all(h, capture);
+    read(n, m0, capture);
+    k
+}
+
+// Where coding is refused the capture stays as it is: zeros, which pass their checks. The second time the edit meets a damaged word, and the damage
+// is beyond repair.
+fn case(n: u64, seed: u64, m0: u64, capture: &mut [u8]) {
+    name(n, seed, m0);
+    let g = code(n, m0, made::start(seed), capture);
+    let h = hurt(n, m0, g, capture);
+    hurt(n, m0, h, capture);
+}
+
+fn sized(n: u64, seed: u64, m0: u64) {
+    let k = (n % 9) as usize;
+    let mut capture = space::capture_8();
+    case(n, seed, m0, &mut capture[0..175616 * k + 7680]);
+}
+
+// The first and the last m0, and the one past it, which is refused; then those between, nine apart.
+pub fn vectors() {
+    for n in 1..9u64 {
+        sized(n, 1000 + n, 0);
+        sized(n, 1100 + n, 63);
+        sized(n, 1200 + n, 64);
+        sized(1, 1300 + n, 9 * (n % 8));
+    }
+}
