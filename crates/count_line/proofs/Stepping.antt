@@ -1,17 +1,15 @@
 -- One byte more, and the answers, as the code's tests show them. Assumes nothing.
 use Prim.Native.Nat.{ℕ, _≤_, _<_}
-use mathlib.Core.Bool.{Bool, true, false, cond, not, _||_}
-use mathlib.Core.Path.{_≡_, refl, ap, _∙_}
+use mathlib.Core.Bool.{true, false, cond, not, _||_}
+use mathlib.Core.Path.{_≡_, _∙_}
 use mathlib.Core.List.{[]}
-use borrow.Author.Tests.{eq-eqb, ne-eqb, lt-ltb, le-ltb, ltb-false}
-use native.Mathlib.Omega.{arith}
+use borrow.Author.Tests.{eq-eqb, ne-eqb, lt-ltb, le-ltb}
 use lib.Dec.{ltb}
 use Rattle.answer.specs.Numbers.{outsideSet}
 use Rattle.answer.specs.Rows.{done, refused, answerOf}
 use Rattle.answer.specs.declared.Answer.{Answer}
 use Rattle.answer.proofs.Table.{row-whole}
 use Rattle.gmp.specs.Places.{places}
-use Rattle.gmp.proofs.Asked.{or-right}
 use Rattle.count_line.specs.Reading.{nextValue, stepOf, soFar}
 use Rattle.count_line.specs.declared.Line.{Line}
 
@@ -47,11 +45,3 @@ pub so-far-done : (l : Line) {a : Answer} → not (l .some) ≡ false → l .val
 so-far-done l h p e = e ∙ rw (so-far-chain l, h, le-ltb places (l .value) p)
 
 pub ruleset verdicts = (so-far-empty, so-far-above, so-far-done)
-
--- what is read as a count is one
-pub so-far-count : (l : Line) {a : Answer} → a ≡ soFar l → a .number ≡ 0 → a .count ≤ places
-so-far-count l {a} e z = by (not (l .some) || ltb places (l .value)) (or-right (not (l .some)) (ltb places (l .value))) (e ∙ so-far-chain l)
-  where
-    by : (t : Bool) → (t ≡ false → ltb places (l .value) ≡ false) → a ≡ cond t (refused outsideSet 0) (done (l .value)) → a .count ≤ places
-    by true f h = absurd (omega (arith, ap (λ (x : Answer). x .number) h))
-    by false f h = omega (arith, ap (λ (x : Answer). x .count) h, ltb-false places (l .value) (f refl))

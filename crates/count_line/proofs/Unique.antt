@@ -1,21 +1,20 @@
--- ONE ANSWER for each public function: two outcomes that meet its contract at one entry are equal. Assumes nothing.
+-- Each public contract has one answer: two results that meet it are the same. `Post` is the contract's own `ensures`, so a weaker contract would not
+-- pass here. Assumes nothing.
 use mathlib.Core.Path.{_≡_}
-use mathlib.Core.List.{List}
-use Prim.Native.Nat.{ℕ}
-use Rattle.answer.specs.declared.Answer.{Answer}
 use Rattle.bits.proofs.Common.{only}
-use Rattle.count_line.specs.Lines.{countOf}
-use Rattle.count_line.specs.Reading.{startOf, moreOf, soFar}
-use Rattle.count_line.specs.declared.Line.{Line}
+use Rattle.count_line.proofs.count_of.Reads as count-of
+use Rattle.count_line.proofs.start.Reads as start
+use Rattle.count_line.proofs.more.Reads as more
+use Rattle.count_line.proofs.so_far.Reads as so-far
 
-pub only-count : (s : List ℕ) (r r′ : Answer) → r ≡ countOf s → r′ ≡ countOf s → r ≡ r′
-only-count s r r′ p q = only p q
+pub only-count : (κs : _) (a : _) (x y : _) (s t : _) → count-of.Post κs a x s → count-of.Post κs a y t → x ≡ y
+only-count κs a x y s t p q = only p q
 
-pub only-start : (r r′ : Line) → r ≡ startOf → r′ ≡ startOf → r ≡ r′
-only-start r r′ p q = only p q
+pub only-start : (κs : _) (a : _) (x y : _) (s t : _) → start.Post κs a x s → start.Post κs a y t → x ≡ y
+only-start κs a x y s t p q = only p q
 
-pub only-more : (l : Line) (s : List ℕ) (r r′ : Line) → r ≡ moreOf l s → r′ ≡ moreOf l s → r ≡ r′
-only-more l s r r′ p q = only p q
+pub only-more : (κs : _) (a : _) (x y : _) (s t : _) → more.Post κs a x s → more.Post κs a y t → x ≡ y
+only-more κs a x y s t p q = only p q
 
-pub only-so-far : (l : Line) (r r′ : Answer) → r ≡ soFar l → r′ ≡ soFar l → r ≡ r′
-only-so-far l r r′ p q = only p q
+pub only-so-far : (κs : _) (a : _) (x y : _) (s t : _) → so-far.Post κs a x s → so-far.Post κs a y t → x ≡ y
+only-so-far κs a x y s t p q = only p q

@@ -1,16 +1,20 @@
--- ONE ANSWER for each public function: two outcomes that meet its contract at one entry are equal. Assumes nothing.
+-- Each public contract has one answer: two runs that meet it at one entry return the same and leave the same bytes in the lent buffer. `Post` is the
+-- contract's own `ensures`, so a weaker contract would not pass here. Assumes nothing.
 use Prim.Native.Nat.{ℕ}
-use mathlib.Core.Path.{_≡_, refl, sym, ap, _∙_}
-use mathlib.Core.List.{List}
+use mathlib.Core.Path.{_≡_, refl, ap}
 use native.Mathlib.Omega.{arith}
-use Rattle.answer.specs.declared.Answer.{Answer}
+use denote.Ref.{now}
 use Rattle.answer.proofs.Meets.{only-outcome}
 use Rattle.bits.proofs.Common.{only}
 use Rattle.gmp.specs.Places.{kindNumber}
-use Rattle.gmp.specs.Answers.{Told, told, runOf, runsOf, Mapped, Unmapped}
+use Rattle.gmp.specs.Answers.{Told, told}
 use Rattle.gmp.specs.declared.told.Kind.{Kind}
 use Rattle.gmp.specs.declared.told.Kind.the-variants.{Stuff, Data}
 use Rattle.gmp.specs.declared.told.Run.{Run}
+use Rattle.gmp.proofs.run.Reads as run
+use Rattle.gmp.proofs.runs.Reads as runs
+use Rattle.gmp.proofs.map.Reads as map
+use Rattle.gmp.proofs.unmap.Reads as unmap
 
 -- the document's number tells the kind
 same-kind : (a b : Kind) → kindNumber a ≡ kindNumber b → a ≡ b
@@ -22,17 +26,22 @@ same-kind Data Stuff e = absurd (omega arith)
 same-run : (n m l k : ℕ) (a b : Kind) → n ≡ m → a ≡ b → l ≡ k → _≡_ {A = Run} (record { number = n; kind = a; last = l }) (record { number = m; kind = b; last = k })
 same-run n m l k a b p q r = rw (p, q, r)
 
-pub only-run : (c j : ℕ) (r r′ : Run) → told r ≡ runOf c j → told r′ ≡ runOf c j → r ≡ r′
-only-run c j r r′ p q =
-    let e : told r ≡ told r′ = p ∙ sym q in
-    same-run (r .number) (r′ .number) (r .last) (r′ .last) (r .kind) (r′ .kind) (ap (λ (x : Told). x .number) e)
-    (same-kind (r .kind) (r′ .kind) (ap (λ (x : Told). x .kind) e)) (ap (λ (x : Told). x .last) e)
+-- so what is told of a run tells the run
+told-once : (x y : Run) → told x ≡ told y → x ≡ y
+told-once x y e =
+    same-run (x .number) (y .number) (x .last) (y .last) (x .kind) (y .kind) (ap (λ (z : Told). z .number) e)
+    (same-kind (x .kind) (y .kind) (ap (λ (z : Told). z .kind) e)) (ap (λ (z : Told). z .last) e)
 
-pub only-runs : (c j : ℕ) (r r′ : Answer) → r ≡ runsOf c j → r′ ≡ runsOf c j → r ≡ r′
-only-runs c j r r′ p q = only p q
+pub only-run : (κs : _) (a : _) (x y : _) (s t : _) → run.Post κs a x s → run.Post κs a y t → x ≡ y
+only-run κs a x y s t p q = told-once x y (only p q)
 
-pub only-map : (c f n : ℕ) (g w : List ℕ) (r r′ : Answer) (out out′ : List ℕ) → Mapped c f n g w r out → Mapped c f n g w r′ out′ → (r ≡ r′) × (out ≡ out′)
-only-map c f n g w r r′ out out′ p q = only-outcome p q
+pub only-runs : (κs : _) (a : _) (x y : _) (s t : _) → runs.Post κs a x s → runs.Post κs a y t → x ≡ y
+only-runs κs a x y s t p q = only p q
 
-pub only-unmap : (c f n : ℕ) (w g : List ℕ) (r r′ : Answer) (out out′ : List ℕ) → Unmapped c f n w g r out → Unmapped c f n w g r′ out′ → (r ≡ r′) × (out ≡ out′)
-only-unmap c f n w g r r′ out out′ p q = only-outcome p q
+-- s and t are the two states at exit; their last part is what is left in `window`, or in `groups`
+pub only-map : (κs : _) (a : _) (x y : _) (s t : _) → map.Post κs a x s → map.Post κs a y t → (x ≡ y) × (now (s .1 .1 .1 .1 .0) ≡ now (t .1 .1 .1 .1 .0))
+only-map κs a x y s t p q = only-outcome p q
+
+pub only-unmap : (κs : _) (a : _) (x y : _) (s t : _) → unmap.Post κs a x s → unmap.Post κs a y t
+    → (x ≡ y) × (now (s .1 .1 .1 .1 .0) ≡ now (t .1 .1 .1 .1 .0))
+only-unmap κs a x y s t p q = only-outcome p q

@@ -53,7 +53,7 @@ byte-sum-more k j r h l =
 
 -- ---- entries of the table
 
-entry-of : (k x : ℕ) → x < 256 → byteEntry (256 * k + x) ≡ byteSum k x
+pub entry-of : (k x : ℕ) → x < 256 → byteEntry (256 * k + x) ≡ byteSum k x
 unfolding byteEntry
 entry-of k x h = ap₂ byteSum (omega arith) (omega arith)
 

@@ -16,7 +16,7 @@ use Rattle.hamming.specs.Columns.{columnOf, positionOf}
 use Rattle.hamming.specs.Code.{checksOf, turn}
 use Rattle.hamming.specs.Repair.{answer, repairAt, repairOf}
 use Rattle.hamming.proofs.Matrix.{column-odd, column-not-zero, columns-differ, position-column, column-position, no-column-even}
-use Rattle.hamming.proofs.Turning.{turn-long, turn-bytes, turn-turn, checks-turn}
+use Rattle.hamming.proofs.Turning.{turn-long, turn-turn, checks-turn}
 use Rattle.hamming.proofs.Words.{checks-lt}
 
 -- ---- the three cases

@@ -19,6 +19,7 @@ use Rattle.hamming.specs.Lent.{byteSum, byteEntry, byteTable, tailTable,
 use Rattle.hamming.proofs.Sums.{sum-same, sum-blocks, taken-same}
 use Rattle.hamming.proofs.Matrix.{tail-lt}
 use Rattle.hamming.proofs.Words.{checks-joined, checks-lt, element-lt, joined-lt, joined-low, joined-high, pack-bytes}
+use Rattle.hamming.proofs.Doubling.{entry-of}
 
 -- what the bytes of a word add
 unfoldable pub byteOfSum : List ℕ → ℕ → ℕ
@@ -39,9 +40,7 @@ pub entry-is : (f : ℕ → ℕ) (n : ℕ) (t : List ℕ) (i c : ℕ) → t ≡ 
 entry-is f n t i c e p h = ap₂ (λ (l : List ℕ) (k : ℕ). getD l k 0) e p ∙ getD-tabulate 0 n f c h
 
 byte-entry : (k x : ℕ) → k < 16 → x < 256 → getD byteTable (256 * k + x) 0 ≡ byteSum k x
-unfolding byteEntry
-byte-entry k x h l =
-    getD-tabulate 0 4096 byteEntry (256 * k + x) (omega arith) ∙ ap₂ byteSum (omega arith) (omega arith)
+byte-entry k x h l = getD-tabulate 0 4096 byteEntry (256 * k + x) (omega arith) ∙ entry-of k x l
 
 pub by-checks : (t w : List ℕ) → t ≡ byteTable → Bytes w → sumBy t w ≡ checksOf w
 unfolding sumBy entryAt byteOfSum

@@ -2,14 +2,13 @@
 use Prim.Native.Nat.{ℕ, _+_, _*_, _/_, _%_, _^_, _<_}
 use mathlib.Core.Path.{_≡_, sym, ap, _∙_}
 use mathlib.Core.List.{List}
-use native.Mathlib.Nat.{zero-add, div-le-self, lt-of-le-of-lt}
+use native.Mathlib.Nat.{zero-add}
 use native.Mathlib.Decide.{ℕ-discrete}
 use native.Mathlib.Omega.{arith}
-use lib.Bits.{bitXor, xor-lt}
-use lib.Dec.{lit<}
+use lib.Bits.{bitXor}
 use lib.ListN.{length, length-set, getD, set}
 use lib.Seq.{getD-set-same, getD-set-other, set-set, set-getD}
-use Rattle.bits.specs.Bits.{digit, bitOf, bitAt, Bytes}
+use Rattle.bits.specs.Bits.{digit, bitOf, bitAt}
 use Rattle.bits.proofs.Common.{agree}
 use Rattle.bits.proofs.Packing.{bitOf-lt}
 use Rattle.bits.proofs.Xor.{xor-cancel, digit-xor}
@@ -48,14 +47,6 @@ module _ (w : List ℕ) (long : length w ≡ 16) (i : ℕ) (h : i < 128) where
       set-set w (i / 8) (bitXor x m) (bitXor (getD (turn w i) (i / 8) 0) m)
       ∙ ap (set w (i / 8)) (ap (λ (y : ℕ). bitXor y m) turn-here ∙ xor-cancel x m)
       ∙ set-getD w (i / 8) 0
-
-  byte-at : Bytes w → (k : ℕ) → Dec (k ≡ i / 8) → getD (turn w i) k 0 < 256
-  byte-at b k (yes e) =
-      rw (e, turn-here) (xor-lt 8 (getD w (i / 8) 0) (128 / 2 ^ (i % 8)) (b (i / 8)) (lt-of-le-of-lt (div-le-self 128 (2 ^ (i % 8))) (lit< tt)))
-  byte-at b k (no ne) = rw (turn-there k ne) (b k)
-
-  pub turn-bytes : Bytes w → Bytes (turn w i)
-  turn-bytes b k = byte-at b k (ℕ-discrete k (i / 8))
 
   -- bit i is turned, and no other
   same-byte : (j : ℕ) → j / 8 ≡ i / 8 → Dec (i ≡ j) → unit (i % 8) (j % 8) ≡ unit i j

@@ -1,40 +1,48 @@
--- Each contract has one answer: two results of the same arguments are equal. Assumes nothing.
-use Prim.Native.Nat.{ℕ}
+-- Each public contract has one answer: two results that meet it are the same. `Post` is the contract's own `ensures`, so a weaker contract would not
+-- pass here. Assumes nothing.
 use mathlib.Core.Path.{_≡_}
-use mathlib.Core.List.{List}
 use Rattle.bits.proofs.Common.{only}
-use Rattle.hamming.specs.declared.Found.{Found}
-use Rattle.hamming.specs.declared.Repaired.{Repaired}
-use Rattle.hamming.specs.Code.{checksOf, wordOf}
-use Rattle.hamming.specs.Repair.{repairOf, numberOf}
-use Rattle.hamming.specs.Lent.{byteTable, tailTable, positionTable, sumBy, wordBy, repairBy}
+use Rattle.hamming.proofs.number.Reads as number
+use Rattle.hamming.proofs.checks.Reads as checks
+use Rattle.hamming.proofs.encode.Reads as encode
+use Rattle.hamming.proofs.repair.Reads as repair
+use Rattle.hamming.proofs.byte_table.Reads as byte-table
+use Rattle.hamming.proofs.tail_table.Reads as tail-table
+use Rattle.hamming.proofs.position_table.Reads as position-table
+use Rattle.hamming.proofs.checks_by.Reads as checks-by
+use Rattle.hamming.proofs.encode_by.Reads as encode-by
+use Rattle.hamming.proofs.repair_known.Reads as repair-known
+use Rattle.hamming.proofs.repair_by.Reads as repair-by
 
-pub number-one : (f : Found) (x y : ℕ) → x ≡ numberOf f → y ≡ numberOf f → x ≡ y
-number-one f x y = only
+pub number-one : (κs : _) (a : _) (x y : _) (s t : _) → number.Post κs a x s → number.Post κs a y t → x ≡ y
+number-one κs a x y s t p q = only p q
 
-pub checks-one : (w : List ℕ) (x y : ℕ) → x ≡ checksOf w → y ≡ checksOf w → x ≡ y
-checks-one w x y = only
+pub checks-one : (κs : _) (a : _) (x y : _) (s t : _) → checks.Post κs a x s → checks.Post κs a y t → x ≡ y
+checks-one κs a x y s t p q = only p q
 
-pub encode-one : (e x y : List ℕ) → x ≡ wordOf e → y ≡ wordOf e → x ≡ y
-encode-one e x y = only
+pub encode-one : (κs : _) (a : _) (x y : _) (s t : _) → encode.Post κs a x s → encode.Post κs a y t → x ≡ y
+encode-one κs a x y s t p q = only p q
 
-pub repair-one : (w : List ℕ) (x y : Repaired) → x ≡ repairOf w → y ≡ repairOf w → x ≡ y
-repair-one w x y = only
+pub repair-one : (κs : _) (a : _) (x y : _) (s t : _) → repair.Post κs a x s → repair.Post κs a y t → x ≡ y
+repair-one κs a x y s t p q = only p q
 
-pub byte-table-one : (x y : List ℕ) → x ≡ byteTable → y ≡ byteTable → x ≡ y
-byte-table-one x y = only
+pub byte-table-one : (κs : _) (a : _) (x y : _) (s t : _) → byte-table.Post κs a x s → byte-table.Post κs a y t → x ≡ y
+byte-table-one κs a x y s t p q = only p q
 
-pub tail-table-one : (x y : List ℕ) → x ≡ tailTable → y ≡ tailTable → x ≡ y
-tail-table-one x y = only
+pub tail-table-one : (κs : _) (a : _) (x y : _) (s t : _) → tail-table.Post κs a x s → tail-table.Post κs a y t → x ≡ y
+tail-table-one κs a x y s t p q = only p q
 
-pub position-table-one : (x y : List ℕ) → x ≡ positionTable → y ≡ positionTable → x ≡ y
-position-table-one x y = only
+pub position-table-one : (κs : _) (a : _) (x y : _) (s t : _) → position-table.Post κs a x s → position-table.Post κs a y t → x ≡ y
+position-table-one κs a x y s t p q = only p q
 
-pub checks-by-one : (t w : List ℕ) (x y : ℕ) → x ≡ sumBy t w → y ≡ sumBy t w → x ≡ y
-checks-by-one t w x y = only
+pub checks-by-one : (κs : _) (a : _) (x y : _) (s t : _) → checks-by.Post κs a x s → checks-by.Post κs a y t → x ≡ y
+checks-by-one κs a x y s t p q = only p q
 
-pub encode-by-one : (t tails e x y : List ℕ) → x ≡ wordBy t tails e → y ≡ wordBy t tails e → x ≡ y
-encode-by-one t tails e x y = only
+pub encode-by-one : (κs : _) (a : _) (x y : _) (s t : _) → encode-by.Post κs a x s → encode-by.Post κs a y t → x ≡ y
+encode-by-one κs a x y s t p q = only p q
 
-pub repair-by-one : (t positions w : List ℕ) (x y : Repaired) → x ≡ repairBy t positions w → y ≡ repairBy t positions w → x ≡ y
-repair-by-one t positions w x y = only
+pub repair-known-one : (κs : _) (a : _) (x y : _) (s t : _) → repair-known.Post κs a x s → repair-known.Post κs a y t → x ≡ y
+repair-known-one κs a x y s t p q = only p q
+
+pub repair-by-one : (κs : _) (a : _) (x y : _) (s t : _) → repair-by.Post κs a x s → repair-by.Post κs a y t → x ≡ y
+repair-by-one κs a x y s t p q = only p q

@@ -1,27 +1,28 @@
--- Each contract has one answer: two results of the same arguments are equal. Assumes nothing.
-use Prim.Native.Nat.{ℕ, _/_, _%_}
+-- Each public contract has one answer: two results that meet it are the same. `Post` is the contract's own `ensures`, so a weaker contract would not
+-- pass here. Assumes nothing.
 use mathlib.Core.Path.{_≡_}
-use mathlib.Core.List.{List}
-use lib.IntN.{ℤ}
 use Rattle.bits.proofs.Common.{only}
-use Rattle.symbols.specs.declared.Symbol.{Symbol}
-use Rattle.symbols.specs.Levels.{levelOf, pairOf, symbolOf, byteOfSymbol}
-use Rattle.symbols.specs.Group.{laidGroup, takenGroup}
+use Rattle.symbols.proofs.level.Reads as level
+use Rattle.symbols.proofs.pair.Reads as pair
+use Rattle.symbols.proofs.symbol_of.Reads as symbol-of
+use Rattle.symbols.proofs.byte_of.Reads as byte-of
+use Rattle.symbols.proofs.interleave.Reads as interleave
+use Rattle.symbols.proofs.deinterleave.Reads as deinterleave
 
-pub level-one : (p : ℕ) (x y : ℤ) → x ≡ levelOf (p / 2 % 2) (p % 2) → y ≡ levelOf (p / 2 % 2) (p % 2) → x ≡ y
-level-one p x y = only
+pub level-one : (κs : _) (a : _) (x y : _) (s t : _) → level.Post κs a x s → level.Post κs a y t → x ≡ y
+level-one κs a x y s t p q = only p q
 
-pub pair-one : (v : ℤ) (x y : ℕ) → x ≡ pairOf v → y ≡ pairOf v → x ≡ y
-pair-one v x y = only
+pub pair-one : (κs : _) (a : _) (x y : _) (s t : _) → pair.Post κs a x s → pair.Post κs a y t → x ≡ y
+pair-one κs a x y s t p q = only p q
 
-pub symbol-one : (b : ℕ) (x y : Symbol) → x ≡ symbolOf b → y ≡ symbolOf b → x ≡ y
-symbol-one b x y = only
+pub symbol-one : (κs : _) (a : _) (x y : _) (s t : _) → symbol-of.Post κs a x s → symbol-of.Post κs a y t → x ≡ y
+symbol-one κs a x y s t p q = only p q
 
-pub byte-one : (s : Symbol) (x y : ℕ) → x ≡ byteOfSymbol s → y ≡ byteOfSymbol s → x ≡ y
-byte-one s x y = only
+pub byte-one : (κs : _) (a : _) (x y : _) (s t : _) → byte-of.Post κs a x s → byte-of.Post κs a y t → x ≡ y
+byte-one κs a x y s t p q = only p q
 
-pub interleave-one : (words : List (List ℕ)) (x y : List ℕ) → x ≡ laidGroup words → y ≡ laidGroup words → x ≡ y
-interleave-one words x y = only
+pub interleave-one : (κs : _) (a : _) (x y : _) (s t : _) → interleave.Post κs a x s → interleave.Post κs a y t → x ≡ y
+interleave-one κs a x y s t p q = only p q
 
-pub deinterleave-one : (s : List ℕ) (x y : List (List ℕ)) → x ≡ takenGroup s → y ≡ takenGroup s → x ≡ y
-deinterleave-one s x y = only
+pub deinterleave-one : (κs : _) (a : _) (x y : _) (s t : _) → deinterleave.Post κs a x s → deinterleave.Post κs a y t → x ≡ y
+deinterleave-one κs a x y s t p q = only p q
