@@ -166,10 +166,9 @@ pub own-element : (b m : ℕ) → m < fecElements → (firstElement b + m) % sup
 own-element b m h = rw (at-mod (fecOf b / fecBlocks) (fecOf b % fecBlocks) m (omega arith) h) (omega arith)
 
 pub own-fec : (b m : ℕ) → m < fecElements → (elementFec (firstElement b + m) ≡ fecOf b) × (elementLocal (firstElement b + m) ≡ m)
-own-fec b m h = (
-  at-fec (fecOf b / fecBlocks) (fecOf b % fecBlocks) m (omega arith) h ∙ (omega arith),
-  at-local (fecOf b / fecBlocks) (fecOf b % fecBlocks) m (omega arith) h,
-)
+own-fec b m h =
+    let fec = at-fec (fecOf b / fecBlocks) (fecOf b % fecBlocks) m (omega arith) h in
+    let local = at-local (fecOf b / fecBlocks) (fecOf b % fecBlocks) m (omega arith) h in (fec ∙ (omega arith), local)
 
 pub own-in : (N b m : ℕ) → b < blocksOf N → m < fecElements → firstElement b + m < superElements * N
 own-in N b m h l = omega arith

@@ -231,10 +231,6 @@ module _ (N b : ℕ) (bits parity cap₀ list₀ : List ℕ) where
   unfolding listOf listing
   passing-list p = p .entries
 
-  -- the loop is over
-  pub passing-end : {w c : ℕ} {cap list : List ℕ} → Passing N b bits parity cap₀ list₀ w cap list c → w ≤ words N → words N ≤ w → Passing N b bits parity cap₀ list₀ (words N) cap list c
-  passing-end {w} p h l = let e : w ≡ words N = omega arith in rw e at p
-
 -- ---- how code makes a turn
 
 module _ (N b : ℕ) (bits parity : List ℕ) (crc w c : ℕ) (cap list : List ℕ) where

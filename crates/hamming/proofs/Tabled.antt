@@ -15,7 +15,7 @@ use Rattle.bits.proofs.Packing.{bitOf-lt, bitOf-at, num-bitOf}
 use Rattle.hamming.specs.Columns.{columns, columnOf, positionOf}
 use Rattle.hamming.specs.Code.{sumTo, taken, checksOf, elementSum, tailSum, tailOf, joined, joinedWord, coded, wordOf}
 use Rattle.hamming.specs.Repair.{repairAt, repairOf}
-use Rattle.hamming.specs.Lent.{byteSum, byteEntry, byteTable, tailTable, positionTable, entryAt, sumBy, wordBy, repairBy}
+use Rattle.hamming.specs.Lent.{byteSum, byteEntry, byteTable, tailTable, positionTable, entryAt, sumBy, wordBy}
 use Rattle.hamming.proofs.Sums.{sum-same, sum-blocks, taken-same}
 use Rattle.hamming.proofs.Matrix.{tail-lt}
 use Rattle.hamming.proofs.Words.{checks-joined, checks-lt, element-lt, joined-lt, joined-low, joined-high, pack-bytes}
@@ -77,10 +77,6 @@ unfolding repairOf
 by-known positions w c q e =
     ap₂ (λ (l : List ℕ) (x : ℕ). repairAt w x (getD l x 0)) q e
     ∙ ap (repairAt w (checksOf w)) (getD-tabulate 0 512 positionOf (checksOf w) (checks-lt w))
-
-pub by-repair : (t positions w : List ℕ) → t ≡ byteTable → positions ≡ positionTable → Bytes w → repairBy t positions w ≡ repairOf w
-unfolding repairBy
-by-repair t positions w p q b = by-known positions w (sumBy t w) q (by-checks t w p b)
 
 -- ---- the two bytes that hold the check bits
 

@@ -12,7 +12,6 @@ use Rattle.hamming.proofs.position_table.Reads as position-table
 use Rattle.hamming.proofs.checks_by.Reads as checks-by
 use Rattle.hamming.proofs.encode_by.Reads as encode-by
 use Rattle.hamming.proofs.repair_known.Reads as repair-known
-use Rattle.hamming.proofs.repair_by.Reads as repair-by
 
 pub number-one : (κs : _) (a : _) (x y : _) (s t : _) → number.Post κs a x s → number.Post κs a y t → x ≡ y
 number-one κs a x y s t p q = only p q
@@ -43,6 +42,3 @@ encode-by-one κs a x y s t p q = only p q
 
 pub repair-known-one : (κs : _) (a : _) (x y : _) (s t : _) → repair-known.Post κs a x s → repair-known.Post κs a y t → x ≡ y
 repair-known-one κs a x y s t p q = only p q
-
-pub repair-by-one : (κs : _) (a : _) (x y : _) (s t : _) → repair-by.Post κs a x s → repair-by.Post κs a y t → x ≡ y
-repair-by-one κs a x y s t p q = only p q

@@ -4,10 +4,8 @@ use Prim.Native.Nat.{ℕ, _+_, _*_, _/_, _%_}
 use mathlib.Core.List.{List}
 use lib.ListN.{getD}
 use Rattle.bits.specs.Bits.{tabulate, digit, bitAt}
-use Rattle.hamming.specs.declared.Repaired.{Repaired}
 use Rattle.hamming.specs.Columns.{positionOf}
 use Rattle.hamming.specs.Code.{sumTo, taken, tailOf, joinedWord}
-use Rattle.hamming.specs.Repair.{repairAt}
 
 -- what byte k of a word adds to the checks where it is x
 unfoldable pub byteSum : ℕ → ℕ → ℕ
@@ -33,9 +31,6 @@ entryAt t w k = getD t (256 * k + getD w k 0) 0
 unfoldable pub sumBy : List ℕ → List ℕ → ℕ
 sumBy t w = sumTo (entryAt t w) 16
 
--- the word of an element by two tables, and the repair of a word by two
+-- the word of an element by two tables
 unfoldable pub wordBy : List ℕ → List ℕ → List ℕ → List ℕ
 wordBy t tails e = joinedWord (bitAt e) (getD tails (sumBy t (joinedWord (bitAt e) 0)) 0 % 512)
-
-unfoldable pub repairBy : List ℕ → List ℕ → List ℕ → Repaired
-repairBy t positions w = repairAt w (sumBy t w) (getD positions (sumBy t w) 0)

@@ -15,7 +15,7 @@ ghost use Rattle.hamming.specs.Columns.{columns, positionOf};
 ghost use Rattle.hamming.specs.Code.{checksOf, turn, tailOf, joinedWord, wordOf};
 ghost use Rattle.hamming.specs.Repair.{repairAt, repairOf, numberOf};
 ghost use Rattle.hamming.specs.Doubling.{Begun, Doubles};
-ghost use Rattle.hamming.specs.Lent.{byteSum, byteTable, tailTable, positionTable, sumBy, wordBy, repairBy};
+ghost use Rattle.hamming.specs.Lent.{byteSum, byteTable, tailTable, positionTable, sumBy, wordBy};
 
 // What repair found: nothing, the bit that it turned, or more than it can repair.
 pub enum Found {
@@ -250,17 +250,9 @@ pub fn repair(w: [u8; 16]) -> Repaired
     repair_at(w, c, position(c))
 }
 
-// The word where its checks c are known already, by the lent table of `position_table`.
+// The same where the word's checks c are known, as by `checks_by`, and by the lent table of `position_table`.
 pub fn repair_known(positions: &[u8; 512], w: [u8; 16], c: u16) -> Repaired
     ensures { λ r. ⌜ r ≡ repairAt w c (getD (now (positions .entry)) c 0) ⌝ }
 {
     repair_at(w, c, bits::byte_at(positions, index(c)))
-}
-
-// The same by lent tables: those of `byte_table` and `position_table`.
-pub fn repair_by(t: &[u16; 4096], positions: &[u8; 512], w: [u8; 16]) -> Repaired
-    ensures { λ r. ⌜ r ≡ repairBy (now (t .entry)) (now (positions .entry)) w ⌝ }
-{
-    let c = checks_by(t, w);
-    repair_known(positions, w, c)
 }

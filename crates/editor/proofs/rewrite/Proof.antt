@@ -5,7 +5,7 @@ use denote.Ref.{now}
 use Rattle.line.specs.Sizes.{words}
 use Rattle.editor.specs.Parts.{stretchFrom, stretchTo, Passing}
 use Rattle.editor.proofs.Listing.{listed-outside, stretch-in}
-use Rattle.editor.proofs.Passes.{passing-start, passing-skip, passing-long, passing-entries, passing-few, passing-turn, passing-end}
+use Rattle.editor.proofs.Passes.{passing-start, passing-skip, passing-long, passing-entries, passing-few, passing-turn}
 use borrow.Author.Needs.{needs}
 use Rattle.editor.proofs.rewrite.Statement.{statement}
 use Rattle.editor.proofs.rewrite.Tie as tie
