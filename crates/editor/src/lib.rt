@@ -111,7 +111,8 @@ fn first_element(b: usize) -> usize
         + line::FEC_ELEMENTS * (b / line::CLIENT_BLOCKS % 5)
 }
 
-// Whether word w of n super frames is listed. Its element and 480 more is w and 32 times its row: filler stays below 480.
+// Whether word w of n super frames is listed. Its element and 480 more is w and 32 times its row: filler at the start stays below 480, and
+// filler at the end is past every FEC block, so that n is not looked at.
 fn is_listed(n: usize, b: usize, w: usize) -> bool
     requires { ⌜ (b < blocksOf n) × (n ≤ 8) × (w < words n) ⌝ }
     ensures { λ r. ⌜ r ≡ listed n b w ⌝ }
