@@ -1074,30 +1074,30 @@ pub fn capture_edges() -> String {
 
 fn capture_edge(n: u64, buffers: u64) -> String {
     let mut generator = Generator::new(100 + n);
-    let mut information = generator.bytes(capture::information_length(buffers));
-    let mut parity = generator.bytes(capture::parity_length(buffers));
-    let mut captured = bytes_from_seed(CAPTURE_SEED, capture::capture_length(buffers));
+    let information = generator.bytes(capture::information_length(buffers));
+    let parity = generator.bytes(capture::parity_length(buffers));
+    let mut captured = vec![0u8; capture::capture_length(buffers)];
     let m0 = 7;
-
-    let (answer, part) = capture::part(n, 0, &information);
-    let mut text = format!("N {} part 0: {} bytes {}\n", n, shown(answer), part.len());
 
     let before = digest(&captured);
     let answer = capture::code(n, m0, &information, &parity, &mut captured);
-    text += &format!("N {} code: {}", n, shown(answer));
+    let mut text = format!("N {} code: {}", n, shown(answer));
     text += &change(" capture", before, digest(&captured));
     text += &both_digests("", &information, &parity);
+
+    let (answer, part) = capture::part(n, 0, &information);
+    text += &format!("N {} part 0: {} bytes {}\n", n, shown(answer), part.len());
 
     let mut damaged = captured.clone();
     for w in 0..damaged.len() / 16 {
         flip(&mut damaged, w, (w * 37 + 11) % WORD_BITS);
     }
-    information = bytes_from_seed(INFORMATION_SEED, information.len());
-    parity = bytes_from_seed(PARITY_SEED, parity.len());
-    let before = [digest(&information), digest(&parity)];
+    let mut information = vec![0u8; information.len()];
+    let mut parity = vec![0u8; parity.len()];
+    let information_before = digest(&information);
+    let parity_before = digest(&parity);
     let answer = capture::read(n, m0, &damaged, &mut information, &mut parity);
     text += &format!("N {} read, one flip in every word: {}", n, shown(answer));
-    let [information_before, parity_before] = before;
     text += &change(" information", information_before, digest(&information));
     text += &change(" parity", parity_before, digest(&parity));
     text += "\n";

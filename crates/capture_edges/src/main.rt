@@ -46,14 +46,38 @@ fn say_inputs(info: &[u8], parity: &[u8]) {
     said::text(b"\n");
 }
 
-fn code(n: u64, info: &[u8], parity: &[u8], capture: &mut [u8]) {
+fn part(n: u64, info: &[u8]) {
+    said::number(b"N ", n);
+    said::outcome(b" part 0: ", capture::information_answer(n, 0, info));
+    let p = capture::information(n, 0, info);
+    said::number(b" bytes ", p.len() as u64);
+    said::text(b"\n");
+}
+
+fn code_from(n: u64, capture: &mut [u8], info: &mut [u8], parity: &mut [u8]) {
+    let g = made::fill(made::start(100 + n % 10), info);
+    made::fill(g, parity);
     let before = made::digest(capture);
     let r = capture::code(n, 7, info, parity, capture);
     say_code(n, r, before, made::digest(capture));
     say_inputs(info, parity);
+    part(n, info);
 }
 
-fn read(n: u64, capture: &[u8], info: &mut [u8], parity: &mut [u8]) {
+// With the buffers of m super frames, zeros but for the input.
+fn code(n: u64, m: usize, capture: &mut [u8]) {
+    let k = m % 9;
+    let mut info = space::info_8();
+    let mut parity = space::info_8();
+    code_from(
+        n,
+        capture,
+        &mut info[0..152915 * k],
+        &mut parity[0..10240 * k],
+    );
+}
+
+fn read_into(n: u64, capture: &[u8], info: &mut [u8], parity: &mut [u8]) {
     let before = made::digest(info);
     let parity_before = made::digest(parity);
     let r = capture::read(n, 7, capture, info, parity);
@@ -64,6 +88,18 @@ fn read(n: u64, capture: &[u8], info: &mut [u8], parity: &mut [u8]) {
         made::digest(info),
         parity_before,
         made::digest(parity),
+    );
+}
+
+fn read(n: u64, m: usize, capture: &[u8]) {
+    let k = m % 9;
+    let mut info = space::info_8();
+    let mut parity = space::info_8();
+    read_into(
+        n,
+        capture,
+        &mut info[0..152915 * k],
+        &mut parity[0..10240 * k],
     );
 }
 
@@ -86,14 +122,6 @@ fn edit(n: u64, block: u64, capture: &mut [u8]) {
     );
 }
 
-fn part(n: u64, info: &[u8]) {
-    said::number(b"N ", n);
-    said::outcome(b" part 0: ", capture::information_answer(n, 0, info));
-    let p = capture::information(n, 0, info);
-    said::number(b" bytes ", p.len() as u64);
-    said::text(b"\n");
-}
-
 // The word that has bit i only.
 fn bit(i: usize) -> [u8; 16] {
     let mut v = [0u8; 16];
@@ -109,48 +137,29 @@ fn turn_in_all(capture: &mut [u8]) {
     }
 }
 
-// The capture stands full of other bytes.
-fn coded(n: u64, info: &mut [u8], parity: &mut [u8], capture: &mut [u8]) {
-    let g = made::fill(made::start(100 + n % 10), info);
-    made::fill(g, parity);
-    made::fill(made::start(999), capture);
-    part(n, info);
-    code(n, info, parity, capture);
-}
-
-// The information and the parity stand full of other bytes. Turned twice the bits are as they were.
-fn flipped(n: u64, info: &mut [u8], parity: &mut [u8], capture: &mut [u8]) {
-    made::fill(made::start(998), info);
-    made::fill(made::start(997), parity);
+// Turned twice the bits are as they were.
+fn flipped(n: u64, m: usize, capture: &mut [u8]) {
     turn_in_all(capture);
-    read(n, capture, info, parity);
+    read(n, m, capture);
     turn_in_all(capture);
 }
 
-// The last client block, and the first past it; no block is the last of none.
+// The last client block, and the first past it; a block far past the end for none.
 fn edited(n: u64, capture: &mut [u8]) {
     edit(n, (4760 * (n % 10) + 47599) % 47600, capture);
     edit(n, 4760 * (n % 10), capture);
 }
 
-fn case(n: u64, info: &mut [u8], parity: &mut [u8], capture: &mut [u8]) {
-    coded(n, info, parity, capture);
-    flipped(n, info, parity, capture);
+fn case(n: u64, m: usize, capture: &mut [u8]) {
+    code(n, m, capture);
+    flipped(n, m, capture);
     edited(n, capture);
 }
 
-// With the buffers of m super frames.
 fn sized(n: u64, m: usize) {
     let k = m % 9;
-    let mut info = space::info_8();
-    let mut parity = space::info_8();
     let mut capture = space::capture_8();
-    case(
-        n,
-        &mut info[0..152915 * k],
-        &mut parity[0..10240 * k],
-        &mut capture[0..175616 * k + 7680],
-    );
+    case(n, m, &mut capture[0..175616 * k + 7680]);
 }
 
 fn main() {
