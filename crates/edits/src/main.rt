@@ -1,86 +1,74 @@
 // Edits captures of 1, 2 and 8 super frames and writes each answer with digests of the capture and of the list. A granted edit is compared with coding
-// afresh and read back. Then edits that are refused by each number, edits beside damage, and edits of a capture that was never coded.
+// afresh and read back. Then edits that are refused by each number, edits beside damage, and edits of a capture that was never coded. Every case
+// starts from a capture of its own, so that most functions take numbers alone and little is known of any buffer: that keeps the check short.
+ghost use mathlib.Core.Path.{_≡_};
+ghost use Prim.Native.Nat.{_≤_};
+ghost use lib.ListN.{length};
 use answer::Answer;
+use made::Generator;
+
+// A block past the end of every capture.
+const NO_BLOCK: u64 = 99999;
+
+// ---- what is made
 
 // The first number of the FEC blocks of n super frames.
 fn first_number(n: u64) -> u64 {
     7 * (n % 9)
 }
 
-// The information and the parity of n super frames, and the capture of them.
-fn make(n: u64, info: &mut [u8], parity: &mut [u8], capture: &mut [u8]) {
-    let g = made::fill(made::start(100 + n % 9), info);
-    made::fill(g, parity);
-    capture::code(n, first_number(n), info, parity, capture);
+fn info_bytes(n: u64) -> usize
+    ensures { λ r. ⌜ r ≤ 1223320 ⌝ }
+{
+    152915 * ((n % 9) as usize)
 }
 
-// Sets the low seven bits of byte 32, which stand behind the 257.
-fn set_spare(bits: &mut [u8], spare: u8) {
-    if 32 < bits.len() {
-        bits[32] = bits[32] & 128 | spare;
-    }
+fn parity_bytes(n: u64) -> usize
+    ensures { λ r. ⌜ r ≤ 81920 ⌝ }
+{
+    10240 * ((n % 9) as usize)
 }
 
-// Makes the client block and the parity that an edit of a block puts in.
-fn make_edit(block: u64, spare: u8, bits: &mut [u8], parity: &mut [u8]) {
-    made::fill(made::start(300 + block % 100000), bits);
-    made::fill(made::start(301 + block % 100000), parity);
-    set_spare(bits, spare);
+fn capture_bytes(n: u64) -> usize
+    ensures { λ r. ⌜ r ≤ 1412608 ⌝ }
+{
+    175616 * ((n % 9) as usize) + 7680
 }
 
-fn say(r: Answer, capture: &[u8], list: &[u64]) {
-    said::outcome(b": ", r);
-    said::digest(b" capture ", capture);
-    said::hex(b" list ", made::digest_numbers(list));
-    said::text(b"\n");
+// Beside the buffers of `space`, for the parity of eight super frames.
+fn parity_8() -> [u8; 81920]
+    ensures { λ r. ⌜ 81920 ≡ length r ⌝ }
+{
+    [0u8; 81920]
 }
 
-// Edits block `block` by what is made for block `of`, and writes what came. The list stands full of made numbers.
-fn edited(
-    n: u64,
-    block: u64,
-    of: u64,
-    spare: u8,
-    bits: &mut [u8],
-    parity: &mut [u8],
-    capture: &mut [u8],
-    list: &mut [u64],
-) {
-    make_edit(of, spare, bits, parity);
-    made::fill_numbers(made::start(996), list);
-    let r = capture::edit(n, block, bits, parity, capture, list);
-    say(r, capture, list);
+fn fill(seed: u64, out: &mut [u8]) {
+    made::fill(made::start(seed), out);
 }
 
-// The same with buffers of the stated lengths.
-fn edit(n: u64, block: u64, of: u64, spare: u8, capture: &mut [u8]) {
+// The client block that an edit of a block puts in. The spare bits are the low seven of byte 32, which stand behind the 257.
+fn client_of(block: u64, spare: u8) -> [u8; 33] {
     let mut bits = [0u8; 33];
+    fill(300 + block % 100000, &mut bits);
+    bits[32] = bits[32] & 128 | spare;
+    bits
+}
+
+// The parity that an edit of a block puts in.
+fn parity_of(block: u64) -> [u8; 2048] {
     let mut parity = [0u8; 2048];
-    let mut list = [0u64; 145];
-    edited(
-        n,
-        block,
-        of,
-        spare,
-        &mut bits,
-        &mut parity,
-        capture,
-        &mut list,
-    );
+    fill(301 + block % 100000, &mut parity);
+    parity
 }
 
-fn name_block(n: u64, block: u64) {
-    said::number(b"N ", n);
-    said::number(b" block ", block);
+// What the list is full of before an edit.
+fn list_of() -> [u64; 146] {
+    let mut list = [0u64; 146];
+    made::fill_numbers(made::start(996), &mut list);
+    list
 }
 
-fn yes_or_no(truth: bool) {
-    if truth {
-        said::text(b"yes");
-    } else {
-        said::text(b"no");
-    }
-}
+// ---- what a capture is coded from
 
 // Puts b to bit i of the bytes s.
 fn put_bit(s: &mut [u8], i: usize, b: u8) {
@@ -92,382 +80,336 @@ fn put_bit(s: &mut [u8], i: usize, b: u8) {
     }
 }
 
-fn put_client(info: &mut [u8], block: usize, client: &[u8]) {
-    for i in 0..257 {
-        put_bit(info, 257 * (block % 100000) + i, bits::bit_at(client, i));
+// Puts the first bits of `new` to the bytes s, from bit `from` on.
+fn put_bits(s: &mut [u8], from: usize, new: &[u8], count: usize) {
+    for i in 0..count % 16385 {
+        put_bit(s, from % 100000000 + i, bits::bit_at(new, i));
     }
 }
 
-fn put_byte(s: &mut [u8], k: usize, x: u8) {
-    if k < s.len() {
-        s[k] = x;
-    }
+// Fills a room with the information of n super frames and behind it their parity, as an edit of a block should leave them; `NO_BLOCK` changes
+// neither.
+fn fill_input(n: u64, block: u64, room: &mut [u8]) {
+    let b = (block % 100000) as usize;
+    fill(100 + n % 9, room);
+    put_bits(room, 257 * b, &client_of(block, 0), 257);
+    put_bits(
+        room,
+        8 * info_bytes(n) + 16384 * (b / 952),
+        &parity_of(block),
+        16384,
+    );
 }
 
-fn put_parity(parity: &mut [u8], t: usize, new: &[u8]) {
-    for k in 0..2048 {
-        put_byte(parity, 2048 * (t % 100) + k, bits::byte_at(new, k));
-    }
+// Codes what fills a room.
+fn code_from(n: u64, room: &[u8], capture: &mut [u8])
+    requires { ⌜ 1412608 ≡ length (now room) ⌝ }
+{
+    let a = info_bytes(n);
+    let b = a + parity_bytes(n);
+    capture::code(n, first_number(n), &room[0..a], &room[a..b], capture);
 }
 
-// What the capture should have been coded from, once the block is edited.
-fn replace(block: u64, info: &mut [u8], parity: &mut [u8], client: &mut [u8], new: &mut [u8]) {
-    make_edit(block, 0, client, new);
-    put_client(info, block as usize, client);
-    put_parity(parity, (block / 952) as usize, new);
+fn code(n: u64, capture: &mut [u8]) {
+    let mut room = space::capture_8();
+    fill_input(n, NO_BLOCK, &mut room);
+    code_from(n, &room, capture);
 }
 
-fn replaced(block: u64, info: &mut [u8], parity: &mut [u8]) {
-    let mut client = [0u8; 33];
-    let mut new = [0u8; 2048];
-    replace(block, info, parity, &mut client, &mut new);
-}
+// ---- an edit
 
-// Codes afresh what the edit of the block should have left.
-fn afresh(n: u64, block: u64, info: &mut [u8], parity: &mut [u8], other: &mut [u8]) {
-    replaced(block, info, parity);
-    capture::code(n, first_number(n), info, parity, other);
-}
-
-fn say_edit(n: u64, block: u64, capture: &mut [u8]) {
-    name_block(n, block);
-    edit(n, block, block, 0, capture);
-}
-
-fn say_compared(n: u64, block: u64, same: bool, back: bool) {
-    name_block(n, block);
-    said::text(b": as coded afresh ");
-    yes_or_no(same);
-    said::text(b" reads back ");
-    yes_or_no(back);
+fn end_line() {
     said::text(b"\n");
 }
 
-// Whether the capture reads back with nothing to repair, into buffers that are left in the two last arguments.
-fn reads_back(
+fn say(r: Answer, capture: &[u8], list: &[u64]) {
+    said::outcome(b": ", r);
+    said::digest(b" capture ", capture);
+    said::hex(b" list ", made::digest_numbers(list));
+    end_line();
+}
+
+fn edit_said(
     n: u64,
-    info: &[u8],
+    block: u64,
+    client: &[u8],
     parity: &[u8],
-    capture: &[u8],
-    info_back: &mut [u8],
-    parity_back: &mut [u8],
-) -> bool {
-    let r = capture::read(n, first_number(n), capture, info_back, parity_back);
-    r.number == 0
-        && r.count == 0
-        && check::same(info, info_back)
-        && check::same(parity, parity_back)
+    capture: &mut [u8],
+    list: &mut [u64],
+) {
+    let r = capture::edit(n, block, client, parity, capture, list);
+    say(r, capture, list);
+}
+
+// Edits a block by what is made for block `of`, in buffers of the lengths given, and writes what came.
+fn edit_lengths(
+    n: u64,
+    block: u64,
+    of: u64,
+    spare: u8,
+    client: usize,
+    parity: usize,
+    list: usize,
+    capture: &mut [u8],
+) {
+    let bits = client_of(of, spare);
+    let new = parity_of(of);
+    let mut words = list_of();
+    let i = client % 34;
+    let j = parity % 2049;
+    let k = list % 147;
+    edit_said(n, block, &bits[0..i], &new[0..j], capture, &mut words[0..k]);
+}
+
+// The same with buffers of the stated lengths.
+fn edit(n: u64, block: u64, of: u64, spare: u8, capture: &mut [u8]) {
+    edit_lengths(n, block, of, spare, 33, 2048, 145, capture);
+}
+
+fn name_block(n: u64, block: u64) {
+    said::number(b"N ", n);
+    said::number(b" block ", block);
+}
+
+fn say_truth(what: &[u8], truth: bool) {
+    said::text(what);
+    if truth {
+        said::text(b"yes");
+    } else {
+        said::text(b"no");
+    }
+}
+
+// ---- granted edits
+
+fn codes_to(n: u64, room: &[u8], capture: &[u8], other: &mut [u8]) -> bool
+    requires { ⌜ 1412608 ≡ length (now room) ⌝ }
+{
+    code_from(n, room, other);
+    check::same(capture, other)
+}
+
+// Whether the capture is what coding afresh gives from what fills a room.
+fn is_afresh(n: u64, room: &[u8], capture: &[u8]) -> bool
+    requires { ⌜ 1412608 ≡ length (now room) ⌝ }
+{
+    let mut other = space::capture_8();
+    let k = capture_bytes(n);
+    codes_to(n, room, capture, &mut other[0..k])
+}
+
+// Whether that is what fills a room.
+fn is_input(n: u64, room: &[u8], info: &[u8], parity: &[u8]) -> bool
+    requires { ⌜ 1412608 ≡ length (now room) ⌝ }
+{
+    let a = info_bytes(n);
+    let b = a + parity_bytes(n);
+    check::same(info, &room[0..a]) && check::same(parity, &room[a..b])
+}
+
+fn reads_into(n: u64, room: &[u8], capture: &[u8], info: &mut [u8], parity: &mut [u8]) -> bool
+    requires { ⌜ 1412608 ≡ length (now room) ⌝ }
+{
+    let r = capture::read(n, first_number(n), capture, info, parity);
+    r.number == 0 && r.count == 0 && is_input(n, room, info, parity)
+}
+
+// Whether the capture reads back to what fills a room, with nothing to repair.
+fn reads_back(n: u64, room: &[u8], capture: &[u8]) -> bool
+    requires { ⌜ 1412608 ≡ length (now room) ⌝ }
+{
+    let mut info = space::info_8();
+    let mut parity = parity_8();
+    let a = info_bytes(n);
+    let b = parity_bytes(n);
+    reads_into(n, room, capture, &mut info[0..a], &mut parity[0..b])
+}
+
+fn say_compared(n: u64, room: &[u8], capture: &[u8])
+    requires { ⌜ 1412608 ≡ length (now room) ⌝ }
+{
+    say_truth(b": as coded afresh ", is_afresh(n, room, capture));
+    say_truth(b" reads back ", reads_back(n, room, capture));
+    end_line();
+}
+
+fn compare(n: u64, block: u64, capture: &[u8]) {
+    let mut room = space::capture_8();
+    fill_input(n, block, &mut room);
+    name_block(n, block);
+    say_compared(n, &room, capture);
+}
+
+fn edit_coded(n: u64, block: u64, capture: &mut [u8]) {
+    code(n, capture);
+    name_block(n, block);
+    edit(n, block, block, 0, capture);
+    compare(n, block, capture);
 }
 
 // A granted edit, compared with coding afresh and read back.
-fn granted(
-    n: u64,
-    block: u64,
-    info: &mut [u8],
-    parity: &mut [u8],
-    capture: &mut [u8],
-    other: &mut [u8],
-    info_back: &mut [u8],
-    parity_back: &mut [u8],
-) {
-    make(n, info, parity, capture);
-    say_edit(n, block, capture);
-    afresh(n, block, info, parity, other);
-    let back = reads_back(n, info, parity, capture, info_back, parity_back);
-    say_compared(n, block, check::same(capture, other), back);
+fn grant(n: u64, block: u64) {
+    let mut capture = space::capture_8();
+    let k = capture_bytes(n);
+    edit_coded(n, block, &mut capture[0..k]);
+}
+
+fn say_coded(n: u64, capture: &[u8]) {
+    said::number(b"N ", n);
+    said::digest(b" coded: ", capture);
+    end_line();
+}
+
+fn edit_past(n: u64, block: u64, capture: &mut [u8]) {
+    code(n, capture);
+    say_coded(n, capture);
+    name_block(n, block);
+    edit(n, block, 6, 0, capture);
 }
 
 // The capture as it was coded, and the first block past its end.
-fn past_end(n: u64, info: &mut [u8], parity: &mut [u8], capture: &mut [u8]) {
-    make(n, info, parity, capture);
-    said::number(b"N ", n);
-    said::digest(b" coded: ", capture);
-    past_edit(n, 4760 * (n % 9), capture);
-}
-
-fn past_edit(n: u64, block: u64, capture: &mut [u8]) {
-    said::text(b"\n");
-    name_block(n, block);
-    edit(n, block, 6, 0, capture);
-}
-
-fn grant_one(block: u64) {
-    let mut info = [0u8; 152915];
-    let mut parity = [0u8; 10240];
-    let mut capture = [0u8; 183296];
-    let mut other = [0u8; 183296];
-    let mut info_back = [0u8; 152915];
-    let mut parity_back = [0u8; 10240];
-    granted(
-        1,
-        block,
-        &mut info,
-        &mut parity,
-        &mut capture,
-        &mut other,
-        &mut info_back,
-        &mut parity_back,
-    );
-}
-
-fn past_one() {
-    let mut info = [0u8; 152915];
-    let mut parity = [0u8; 10240];
-    let mut capture = [0u8; 183296];
-    past_end(1, &mut info, &mut parity, &mut capture);
-}
-
-fn grant_two(block: u64) {
-    let mut info = [0u8; 305830];
-    let mut parity = [0u8; 20480];
-    let mut capture = [0u8; 358912];
-    let mut other = [0u8; 358912];
-    let mut info_back = [0u8; 305830];
-    let mut parity_back = [0u8; 20480];
-    granted(
-        2,
-        block,
-        &mut info,
-        &mut parity,
-        &mut capture,
-        &mut other,
-        &mut info_back,
-        &mut parity_back,
-    );
-}
-
-fn past_two() {
-    let mut info = [0u8; 305830];
-    let mut parity = [0u8; 20480];
-    let mut capture = [0u8; 358912];
-    past_end(2, &mut info, &mut parity, &mut capture);
-}
-
-fn grant_eight(block: u64) {
-    let mut info = space::info_8();
-    let mut parity = [0u8; 81920];
+fn past_end(n: u64) {
     let mut capture = space::capture_8();
-    let mut other = space::capture_8();
-    let mut info_back = space::info_8();
-    let mut parity_back = [0u8; 81920];
-    granted(
-        8,
+    let k = capture_bytes(n);
+    edit_past(n, 4760 * (n % 9), &mut capture[0..k]);
+}
+
+// ---- refused edits: of block 6, unless another is named, in the capture of one super frame
+
+fn refused_in(
+    n: u64,
+    block: u64,
+    spare: u8,
+    client: usize,
+    parity: usize,
+    list: usize,
+    capture: &mut [u8],
+) {
+    code(1, capture);
+    edit_lengths(n, block, 6, spare, client, parity, list, capture);
+}
+
+fn refused(what: &[u8], n: u64, block: u64, spare: u8, client: usize, parity: usize, list: usize) {
+    let mut capture = space::capture_8();
+    said::text(what);
+    refused_in(
+        n,
         block,
-        &mut info,
-        &mut parity,
-        &mut capture,
-        &mut other,
-        &mut info_back,
-        &mut parity_back,
+        spare,
+        client,
+        parity,
+        list,
+        &mut capture[0..183296],
     );
 }
 
-fn past_eight() {
-    let mut info = space::info_8();
-    let mut parity = [0u8; 81920];
-    let mut capture = space::capture_8();
-    past_end(8, &mut info, &mut parity, &mut capture);
-}
-
-// Number 1, with the capture of one super frame.
-fn outside(n: u64, block: u64, capture: &mut [u8]) {
+// Number 1.
+fn outside(n: u64, block: u64) {
     name_block(n, block);
-    edit(n, block, 6, 0, capture);
+    refused(b"", n, block, 0, 33, 2048, 145);
 }
 
-// Number 2, also where a spare bit is set.
-fn short_list(name: &[u8], spare: u8, capture: &mut [u8]) {
-    said::text(name);
-    let mut bits = [0u8; 33];
-    let mut parity = [0u8; 2048];
-    let mut list = [0u64; 144];
-    edited(1, 6, 6, spare, &mut bits, &mut parity, capture, &mut list);
-}
-
-fn long_list(capture: &mut [u8]) {
-    said::text(b"list of 146");
-    let mut bits = [0u8; 33];
-    let mut parity = [0u8; 2048];
-    let mut list = [0u64; 146];
-    edited(1, 6, 6, 0, &mut bits, &mut parity, capture, &mut list);
-}
-
-fn short_client(capture: &mut [u8]) {
-    said::text(b"client block of 32 bytes");
-    let mut bits = [0u8; 32];
-    let mut parity = [0u8; 2048];
-    let mut list = [0u64; 145];
-    edited(1, 6, 6, 0, &mut bits, &mut parity, capture, &mut list);
-}
-
-fn short_parity(capture: &mut [u8]) {
-    said::text(b"parity of 2047 bytes");
-    let mut bits = [0u8; 33];
-    let mut parity = [0u8; 2047];
-    let mut list = [0u64; 145];
-    edited(1, 6, 6, 0, &mut bits, &mut parity, capture, &mut list);
-}
-
-fn named_edit(name: &[u8], n: u64, spare: u8, capture: &mut [u8]) {
-    said::text(name);
-    edit(n, 6, 6, spare, capture);
-}
-
-fn lists(capture: &mut [u8]) {
-    short_list(b"list of 144", 0, capture);
-    long_list(capture);
-    short_client(capture);
-    short_parity(capture);
-}
-
-// The word that has bit i only.
+// The word that has bit i only, and none where there is no such bit.
 fn bit(i: usize) -> [u8; 16] {
     let mut v = [0u8; 16];
-    let k = i % 128;
-    v[k / 8] = 128 >> (k % 8);
+    if i < 128 {
+        v[i / 8] = 128 >> (i % 8);
+    }
     v
 }
 
-// Number 3, also where a word to be listed is wrong.
-fn spare_bits(capture: &mut [u8]) {
-    named_edit(b"lowest spare bit set", 1, 1, capture);
-    named_edit(b"highest spare bit set", 1, 64, capture);
-    spare_and_wrong(capture);
+fn turn_two(w: usize, i: usize, x: usize, j: usize, capture: &mut [u8]) {
+    damage::turn(capture, w, bit(i));
+    damage::turn(capture, x, bit(j));
 }
 
-fn spare_and_wrong(capture: &mut [u8]) {
-    damage::turn(capture, 15, bit(0));
-    named_edit(b"spare bit set and listed word wrong", 1, 1, capture);
-    damage::turn(capture, 15, bit(0));
+fn wrong_in(w: usize, i: usize, x: usize, j: usize, spare: u8, capture: &mut [u8]) {
+    code(1, capture);
+    turn_two(w, i, x, j, capture);
+    edit(1, 6, 6, spare, capture);
 }
 
-fn name_wrong(w: usize, i: usize) {
-    said::number(b"word ", w as u64);
-    said::number(b" bit ", i as u64);
-    said::text(b" wrong");
+// Bit i of word w is wrong and bit j of word x.
+fn wrong(what: &[u8], w: usize, i: usize, x: usize, j: usize, spare: u8) {
+    let mut capture = space::capture_8();
+    said::text(what);
+    wrong_in(w, i, x, j, spare, &mut capture[0..183296]);
 }
 
 // Number 9: bit i of word w is wrong, which is one of those to be listed.
-fn wrong(w: usize, i: usize, capture: &mut [u8]) {
-    name_wrong(w, i);
-    damage::turn(capture, w, bit(i));
-    edit(1, 6, 6, 0, capture);
-    damage::turn(capture, w, bit(i));
+fn listed_wrong(w: usize, i: usize) {
+    said::number(b"word ", w as u64);
+    said::number(b" bit ", i as u64);
+    wrong(b" wrong", w, i, w, 128, 0);
 }
 
-fn both_wrong(capture: &mut [u8]) {
-    damage::turn(capture, 2672, bit(5));
-    damage::turn(capture, 15, bit(6));
-    named_edit(b"words 15 and 2672 wrong", 1, 0, capture);
+// Number 2, also where a spare bit is set.
+fn lengths() {
+    refused(b"list of 144", 1, 6, 0, 33, 2048, 144);
+    refused(b"list of 146", 1, 6, 0, 33, 2048, 146);
+    refused(b"client block of 32 bytes", 1, 6, 0, 32, 2048, 145);
+    refused(b"parity of 2047 bytes", 1, 6, 0, 33, 2047, 145);
+    refused(b"capture of N 1 as N 2", 2, 6, 0, 33, 2048, 145);
+    refused(b"spare bit set and list of 144", 1, 6, 1, 33, 2048, 144);
 }
 
-fn listed_wrong(capture: &mut [u8]) {
-    wrong(15, 0, capture);
-    wrong(15, 127, capture);
-    wrong(2672, 77, capture);
-    both_wrong(capture);
+// Number 3, also where a word to be listed is wrong, and number 9.
+fn wrong_words() {
+    refused(b"lowest spare bit set", 1, 6, 1, 33, 2048, 145);
+    refused(b"highest spare bit set", 1, 6, 64, 33, 2048, 145);
+    wrong(b"spare bit set and listed word wrong", 15, 0, 15, 128, 1);
+    listed_wrong(15, 0);
+    listed_wrong(15, 127);
+    listed_wrong(2672, 77);
+    wrong(b"words 15 and 2672 wrong", 2672, 5, 15, 6, 0);
 }
 
-fn numbers(capture: &mut [u8]) {
-    outside(0, 0, capture);
-    outside(9, 0, capture);
-    outside(1, 18446744073709551615, capture);
-    lists(capture);
-}
-
-fn lengths(capture: &mut [u8]) {
-    named_edit(b"capture of N 1 as N 2", 2, 0, capture);
-    short_list(b"spare bit set and list of 144", 1, capture);
-    spare_bits(capture);
-    listed_wrong(capture);
-}
-
-fn refused(info: &mut [u8], parity: &mut [u8], capture: &mut [u8]) {
-    make(1, info, parity, capture);
-    numbers(capture);
-    lengths(capture);
-}
-
-fn refusals() {
-    let mut info = [0u8; 152915];
-    let mut parity = [0u8; 10240];
-    let mut capture = [0u8; 183296];
-    refused(&mut info, &mut parity, &mut capture);
-}
-
-// An edit of block 6 that is not written: for comparison.
-fn quiet(capture: &mut [u8], bits: &mut [u8], parity: &mut [u8], list: &mut [u64]) {
-    make_edit(6, 0, bits, parity);
-    capture::edit(1, 6, bits, parity, capture, list);
-}
-
-fn quietly(capture: &mut [u8]) {
-    let mut bits = [0u8; 33];
-    let mut parity = [0u8; 2048];
-    let mut list = [0u64; 145];
-    quiet(capture, &mut bits, &mut parity, &mut list);
-}
-
-fn turn_two(w: usize, capture: &mut [u8]) {
-    damage::turn(capture, w, bit(5));
-    damage::turn(capture, w, bit(127));
-}
+// ---- edits beside damage
 
 fn name_beside(w: usize) {
     said::number(b"word ", w as u64);
     said::text(b" wrong but not listed");
 }
 
-// Two bits of word w are wrong, which is not listed.
-fn edit_beside(w: usize, capture: &mut [u8]) {
-    turn_two(w, capture);
+fn say_kept(w: usize, capture: &[u8]) {
+    let mut room = space::capture_8();
+    fill_input(1, 6, &mut room);
+    name_beside(w);
+    say_truth(b": kept ", is_afresh(1, &room, capture));
+    end_line();
+}
+
+fn beside_in(w: usize, capture: &mut [u8]) {
+    code(1, capture);
+    turn_two(w, 5, w, 127, capture);
     name_beside(w);
     edit(1, 6, 6, 0, capture);
-    turn_two(w, capture);
+    turn_two(w, 5, w, 127, capture);
+    say_kept(w, capture);
 }
 
-// They stay so: turned back, the capture is that of the edit without damage.
-fn beside(w: usize, capture: &mut [u8], other: &mut [u8], info: &mut [u8], parity: &mut [u8]) {
-    make(1, info, parity, capture);
-    edit_beside(w, capture);
-    make(1, info, parity, other);
-    quietly(other);
-    say_kept(w, check::same(capture, other));
+// Two bits of word w are wrong, which is not listed. They stay so: turned back, the capture is that of the edit without damage.
+fn beside(w: usize) {
+    let mut capture = space::capture_8();
+    beside_in(w, &mut capture[0..183296]);
 }
 
-fn say_kept(w: usize, kept: bool) {
-    name_beside(w);
-    said::text(b": kept ");
-    yes_or_no(kept);
-    said::text(b"\n");
+// ---- edits of a capture that was never coded
+
+// Puts the code word of a made element to word w, which holds zeros before.
+fn put_word(g: Generator, w: usize, capture: &mut [u8]) -> Generator {
+    let mut e = [0u8; 15];
+    let next = made::fill(g, &mut e);
+    damage::turn(capture, w, hamming::encode(bits::word_from(&e, 0)));
+    next
 }
 
-fn damaged_beside(w: usize) {
-    let mut info = [0u8; 152915];
-    let mut parity = [0u8; 10240];
-    let mut capture = [0u8; 183296];
-    let mut other = [0u8; 183296];
-    beside(w, &mut capture, &mut other, &mut info, &mut parity);
-}
-
-// Fills every slot, filler too, with the code word of a made element. The capture holds zeros before.
-fn fill_words(seed: u64, t: &[u16; 4096], tails: &[u16; 512], e: &mut [u8], capture: &mut [u8]) {
+// Every slot, filler too.
+fn fill_words(seed: u64, capture: &mut [u8]) {
     let mut g = made::start(seed);
     for w in 0..11456 {
-        g = made::fill(g, e);
-        damage::turn(
-            capture,
-            w,
-            hamming::encode_by(t, tails, bits::word_from(e, 0)),
-        );
+        g = put_word(g, w, capture);
     }
-}
-
-fn fill_capture(seed: u64, capture: &mut [u8]) {
-    let t = hamming::byte_table();
-    let tails = hamming::tail_table();
-    let mut e = [0u8; 15];
-    fill_words(seed, &t, &tails, &mut e, capture);
 }
 
 fn name_never(block: u64, what: &[u8]) {
@@ -475,61 +417,66 @@ fn name_never(block: u64, what: &[u8]) {
     said::text(what);
 }
 
+fn say_never(block: u64, capture: &[u8]) {
+    name_never(block, b" before:");
+    said::digest(b" capture ", capture);
+    end_line();
+}
+
 fn edit_never(block: u64, what: &[u8], capture: &mut [u8]) {
     name_never(block, what);
     edit(1, block, block, 0, capture);
 }
 
-// Valid words that no input was coded to. The same edit once more changes nothing.
 fn edit_twice(block: u64, capture: &mut [u8]) {
-    fill_capture(400 + block % 100000, capture);
-    name_never(block, b" before:");
-    said::digest(b" capture ", capture);
-    edit_then(block, capture);
-}
-
-fn edit_then(block: u64, capture: &mut [u8]) {
-    said::text(b"\n");
+    fill_words(400 + block % 100000, capture);
+    say_never(block, capture);
     edit_never(block, b"", capture);
     edit_never(block, b" again", capture);
 }
 
+// Valid words that no input was coded to. The same edit once more changes nothing.
 fn never_coded(block: u64) {
-    let mut capture = [0u8; 183296];
-    edit_twice(block, &mut capture);
+    let mut capture = space::capture_8();
+    edit_twice(block, &mut capture[0..183296]);
 }
 
-fn said_list(list: &mut [u64]) {
-    made::fill_numbers(made::start(996), list);
-    said::hex(b"list before: ", made::digest_numbers(list));
-    said::text(b"\n");
-}
+// ---- all of them
 
 fn list_before() {
-    let mut list = [0u64; 145];
-    said_list(&mut list);
+    let list = list_of();
+    said::hex(b"list before: ", made::digest_numbers(&list[0..145]));
+    end_line();
 }
 
 fn grants() {
-    past_one();
-    grant_one(0);
-    grant_one(6);
-    grant_one(951);
-    grant_one(952);
-    grant_one(4759);
-    past_two();
-    grant_two(4759);
-    grant_two(4760);
-    past_eight();
-    grant_eight(38079);
+    past_end(1);
+    grant(1, 0);
+    grant(1, 6);
+    grant(1, 951);
+    grant(1, 952);
+    grant(1, 4759);
+    past_end(2);
+    grant(2, 4759);
+    grant(2, 4760);
+    past_end(8);
+    grant(8, 38079);
+}
+
+fn refusals() {
+    outside(0, 0);
+    outside(9, 0);
+    outside(1, 18446744073709551615);
+    lengths();
+    wrong_words();
 }
 
 fn main() {
     list_before();
     grants();
     refusals();
-    damaged_beside(0);
-    damaged_beside(170);
+    beside(0);
+    beside(170);
     never_coded(6);
     never_coded(4759);
 }

@@ -1,12 +1,66 @@
 // Reads captures of 1 and of 8 super frames: as they were coded, with one bit turned in every word, refused by each number at its first and at its
-// last place, by two numbers at once, and for numbers and lengths. Digests show what the buffers hold after each call. All damage is taken
-// back by doing it once more.
+// last place, by two numbers at once, and for numbers and lengths. Digests show what the buffers hold after each call. Every case starts from a
+// capture of its own, so that most functions take numbers alone and little is known of any buffer: that keeps the check short.
+ghost use mathlib.Core.Path.{_≡_};
+ghost use Prim.Native.Nat.{_≤_};
+ghost use lib.ListN.{length};
 use answer::Answer;
+
+// The word that has no bit.
+const NONE: [u8; 16] = [0; 16];
+
+// ---- captures
 
 // The first number of the FEC blocks of n super frames.
 fn first_number(n: u64) -> u64 {
     7 * (n % 9)
 }
+
+fn info_bytes(n: u64) -> usize
+    ensures { λ r. ⌜ r ≤ 1223320 ⌝ }
+{
+    152915 * ((n % 9) as usize)
+}
+
+fn parity_bytes(n: u64) -> usize
+    ensures { λ r. ⌜ r ≤ 81920 ⌝ }
+{
+    10240 * ((n % 9) as usize)
+}
+
+fn capture_bytes(n: u64) -> usize
+    ensures { λ r. ⌜ r ≤ 1412608 ⌝ }
+{
+    175616 * ((n % 9) as usize) + 7680
+}
+
+// Beside the buffers of `space`, for the parity of eight super frames.
+fn parity_8() -> [u8; 81920]
+    ensures { λ r. ⌜ 81920 ≡ length r ⌝ }
+{
+    [0u8; 81920]
+}
+
+fn fill(seed: u64, out: &mut [u8]) {
+    made::fill(made::start(seed), out);
+}
+
+// Codes what fills a room: the information of n super frames and behind it their parity.
+fn code_from(n: u64, room: &[u8], capture: &mut [u8])
+    requires { ⌜ 1412608 ≡ length (now room) ⌝ }
+{
+    let a = info_bytes(n);
+    let b = a + parity_bytes(n);
+    capture::code(n, first_number(n), &room[0..a], &room[a..b], capture);
+}
+
+fn code(n: u64, capture: &mut [u8]) {
+    let mut room = space::capture_8();
+    fill(100 + n % 9, &mut room);
+    code_from(n, &room, capture);
+}
+
+// ---- a call
 
 fn say_both(info: &[u8], parity: &[u8]) {
     said::digest(b" information ", info);
@@ -21,19 +75,54 @@ fn say(r: Answer, info: &[u8], parity: &[u8]) {
 
 // What the buffers are full of before a call.
 fn before(info: &mut [u8], parity: &mut [u8]) {
-    made::fill(made::start(998), info);
-    made::fill(made::start(997), parity);
+    fill(998, info);
+    fill(997, parity);
 }
 
-fn reading(n: u64, m0: u64, capture: &[u8], info: &mut [u8], parity: &mut [u8]) {
+fn before_in(info: &mut [u8], parity: &mut [u8]) {
+    before(info, parity);
+    say_both(info, parity);
+}
+
+// Writes what they are full of, at the lengths given.
+fn say_before(info: usize, parity: usize) {
+    let mut i = space::info_8();
+    let mut p = parity_8();
+    let a = info % 1223321;
+    let b = parity % 81921;
+    before_in(&mut i[0..a], &mut p[0..b]);
+}
+
+fn read_in(n: u64, m0: u64, capture: &[u8], info: &mut [u8], parity: &mut [u8]) {
     before(info, parity);
     let r = capture::read(n, m0, capture, info, parity);
     say(r, info, parity);
 }
 
+// Reads into buffers of the lengths given and writes what came.
+fn read(n: u64, m0: u64, capture: &[u8], info: usize, parity: usize) {
+    let mut i = space::info_8();
+    let mut p = parity_8();
+    let a = info % 1223321;
+    let b = parity % 81921;
+    read_in(n, m0, capture, &mut i[0..a], &mut p[0..b]);
+}
+
+// The same with buffers of the stated lengths.
+fn read_stated(n: u64, m0: u64, capture: &[u8]) {
+    read(n, m0, capture, info_bytes(n), parity_bytes(n));
+}
+
+fn name(n: u64, what: &[u8]) {
+    said::number(b"N ", n);
+    said::text(what);
+}
+
+// ---- damage
+
 // The word that has bit i only.
 fn bit(i: usize) -> [u8; 16] {
-    let mut v = [0u8; 16];
+    let mut v = NONE;
     let k = i % 128;
     v[k / 8] = 128 >> (k % 8);
     v
@@ -41,7 +130,7 @@ fn bit(i: usize) -> [u8; 16] {
 
 // The word that has bits 0 and 1 only.
 fn two_bits() -> [u8; 16] {
-    let mut v = [0u8; 16];
+    let mut v = NONE;
     v[0] = 192;
     v
 }
@@ -70,57 +159,45 @@ fn last_block(n: u64) -> usize {
     (5 * (n % 9) + 39) as usize % 40
 }
 
-fn turn_both(w: usize, v: [u8; 16], x: usize, u: [u8; 16], capture: &mut [u8]) {
+fn damaged_in(n: u64, m0: u64, w: usize, v: [u8; 16], x: usize, u: [u8; 16], capture: &mut [u8]) {
+    code(n, capture);
     damage::turn(capture, w, v);
     damage::turn(capture, x, u);
+    read_stated(n, m0, capture);
+}
+
+fn counted_from(n: u64, m0: u64, w: usize, v: [u8; 16], x: usize, u: [u8; 16]) {
+    let mut capture = space::capture_8();
+    let k = capture_bytes(n);
+    damaged_in(n, m0, w, v, x, u, &mut capture[0..k]);
 }
 
 // Reads with the bits of v turned in word w and those of u in word x.
-fn damaged(
-    n: u64,
-    w: usize,
-    v: [u8; 16],
-    x: usize,
-    u: [u8; 16],
-    capture: &mut [u8],
-    info: &mut [u8],
-    parity: &mut [u8],
-) {
-    turn_both(w, v, x, u, capture);
-    reading(n, first_number(n), capture, info, parity);
-    turn_both(w, v, x, u, capture);
+fn damaged(n: u64, w: usize, v: [u8; 16], x: usize, u: [u8; 16]) {
+    counted_from(n, first_number(n), w, v, x, u);
 }
 
-fn once(n: u64, w: usize, v: [u8; 16], capture: &mut [u8], info: &mut [u8], parity: &mut [u8]) {
-    damaged(n, w, v, w, [0u8; 16], capture, info, parity);
+fn once(n: u64, w: usize, v: [u8; 16]) {
+    damaged(n, w, v, w, NONE);
+}
+
+// Bit p of super frame f turned.
+fn turned(n: u64, f: usize, p: usize) {
+    once(n, word_of(f, p), sound(p));
 }
 
 // Bit p of super frame f turned, and bit q of super frame g.
-fn two_wrong(
-    n: u64,
-    f: usize,
-    p: usize,
-    g: usize,
-    q: usize,
-    capture: &mut [u8],
-    info: &mut [u8],
-    parity: &mut [u8],
-) {
-    let w = word_of(f, p);
-    let x = word_of(g, q);
-    damaged(n, w, sound(p), x, sound(q), capture, info, parity);
+fn both_turned(n: u64, f: usize, p: usize, g: usize, q: usize) {
+    damaged(n, word_of(f, p), sound(p), word_of(g, q), sound(q));
 }
 
-fn name(n: u64, what: &[u8]) {
-    said::number(b"N ", n);
-    said::text(what);
-}
+// ---- one number applies
 
-fn undamaged(n: u64, capture: &[u8], info: &mut [u8], parity: &mut [u8]) {
+fn undamaged(n: u64) {
     name(n, b" undamaged");
-    reading(n, first_number(n), capture, info, parity);
+    once(n, 0, NONE);
     name(n, b" m0 one more");
-    reading(n, 7 * (n % 9) + 1, capture, info, parity);
+    counted_from(n, 7 * (n % 9) + 1, 0, NONE, 0, NONE);
 }
 
 // One bit turned in each word.
@@ -130,32 +207,38 @@ fn turn_in_all(capture: &mut [u8]) {
     }
 }
 
-fn every_word(n: u64, capture: &mut [u8], info: &mut [u8], parity: &mut [u8]) {
+fn all_in(n: u64, capture: &mut [u8]) {
+    code(n, capture);
+    turn_in_all(capture);
+    read_stated(n, first_number(n), capture);
+}
+
+fn every_word(n: u64) {
+    let mut capture = space::capture_8();
+    let k = capture_bytes(n);
     name(n, b" one flip in every word");
-    turn_in_all(capture);
-    reading(n, first_number(n), capture, info, parity);
-    turn_in_all(capture);
+    all_in(n, &mut capture[0..k]);
 }
 
 // Number 4: word w, which is filler, beyond repair.
-fn beyond(n: u64, w: usize, capture: &mut [u8], info: &mut [u8], parity: &mut [u8]) {
+fn beyond(n: u64, w: usize) {
     name(n, b" two flips");
     said::number(b" in word ", w as u64);
-    once(n, w, two_bits(), capture, info, parity);
+    once(n, w, two_bits());
 }
 
 // Number 5: word w, which is filler, not zero.
-fn filler(n: u64, w: usize, capture: &mut [u8], info: &mut [u8], parity: &mut [u8]) {
+fn filler(n: u64, w: usize) {
     name(n, b" filler not zero");
     said::number(b" in word ", w as u64);
-    once(n, w, sound(0), capture, info, parity);
+    once(n, w, sound(0));
 }
 
-fn words(n: u64, capture: &mut [u8], info: &mut [u8], parity: &mut [u8]) {
-    beyond(n, 0, capture, info, parity);
-    beyond(n, last_word(n), capture, info, parity);
-    filler(n, 0, capture, info, parity);
-    filler(n, last_word(n), capture, info, parity);
+fn words(n: u64) {
+    beyond(n, 0);
+    beyond(n, last_word(n));
+    filler(n, 0);
+    filler(n, last_word(n));
 }
 
 fn name_bit(n: u64, i: usize, of: &[u8], place: usize) {
@@ -165,204 +248,139 @@ fn name_bit(n: u64, i: usize, of: &[u8], place: usize) {
 }
 
 // Numbers 6 and 7: bit i of FEC block t.
-fn block(n: u64, t: usize, i: usize, capture: &mut [u8], info: &mut [u8], parity: &mut [u8]) {
+fn block(n: u64, t: usize, i: usize) {
     name_bit(n, i, b" of block ", t);
-    let p = place_of(t, i);
-    once(n, word_of(t / 5, p), sound(p), capture, info, parity);
+    turned(n, t / 5, place_of(t, i));
 }
 
-fn blocks(n: u64, capture: &mut [u8], info: &mut [u8], parity: &mut [u8]) {
-    block(n, 0, 244701, capture, info, parity);
-    block(n, last_block(n), 244696, capture, info, parity);
-    block(n, 0, 0, capture, info, parity);
-    block(n, last_block(n), 244695, capture, info, parity);
+fn blocks(n: u64) {
+    block(n, 0, 244701);
+    block(n, last_block(n), 244696);
+    block(n, 0, 0);
+    block(n, last_block(n), 244695);
 }
 
 // Number 8: bit p of super frame f.
-fn pad(n: u64, f: usize, p: usize, capture: &mut [u8], info: &mut [u8], parity: &mut [u8]) {
+fn pad(n: u64, f: usize, p: usize) {
     name_bit(n, p, b" of super frame ", f);
-    once(n, word_of(f, p), sound(p), capture, info, parity);
+    turned(n, f, p);
 }
 
-fn pads(n: u64, capture: &mut [u8], info: &mut [u8], parity: &mut [u8]) {
-    pad(n, 0, 1305430, capture, info, parity);
-    pad(n, last_block(n) / 5, 1306143, capture, info, parity);
+fn pads(n: u64) {
+    pad(n, 0, 1305430);
+    pad(n, last_block(n) / 5, 1306143);
 }
 
-// Two numbers apply: the smaller one wins, wherever it stands.
-fn mbas_and_crc(n: u64, capture: &mut [u8], info: &mut [u8], parity: &mut [u8]) {
+// ---- two numbers apply: the smaller one wins, wherever it stands
+
+fn mbas_and_crc(n: u64) {
     name(n, b" last MBAS and first CRC wrong");
     let t = last_block(n);
-    let p = place_of(t, 244696);
-    two_wrong(n, t / 5, p, 0, 0, capture, info, parity);
+    both_turned(n, t / 5, place_of(t, 244696), 0, 0);
 }
 
-fn word_and_filler(n: u64, capture: &mut [u8], info: &mut [u8], parity: &mut [u8]) {
+fn word_and_filler(n: u64) {
     name(n, b" last word beyond repair, first filler not zero");
-    let w = last_word(n);
-    damaged(n, w, two_bits(), 0, sound(0), capture, info, parity);
+    damaged(n, last_word(n), two_bits(), 0, sound(0));
 }
 
-fn crc_and_pad(n: u64, capture: &mut [u8], info: &mut [u8], parity: &mut [u8]) {
+fn crc_and_pad(n: u64) {
     name(n, b" last CRC and first pad wrong");
     let t = last_block(n);
-    let p = place_of(t, 244695);
-    two_wrong(n, t / 5, p, 0, 1305430, capture, info, parity);
+    both_turned(n, t / 5, place_of(t, 244695), 0, 1305430);
 }
 
 // One number applies twice: the smaller place wins.
-fn crc_twice(n: u64, capture: &mut [u8], info: &mut [u8], parity: &mut [u8]) {
+fn crc_twice(n: u64) {
     name(n, b" CRC of block 3 and of the last wrong");
     let t = last_block(n);
-    let p = place_of(t, 0);
-    two_wrong(n, t / 5, p, 0, place_of(3, 0), capture, info, parity);
+    both_turned(n, t / 5, place_of(t, 0), 0, place_of(3, 0));
 }
 
 // A filler word is looked at after repair.
-fn repaired_filler(n: u64, capture: &mut [u8], info: &mut [u8], parity: &mut [u8]) {
+fn repaired_filler(n: u64) {
     name(n, b" last filler not zero, its only element bit flipped");
     let w = last_word(n);
-    damaged(n, w, sound(0), w, bit(0), capture, info, parity);
+    damaged(n, w, sound(0), w, bit(0));
 }
 
 // Nothing guards the parity.
-fn parity_turned(n: u64, capture: &mut [u8], info: &mut [u8], parity: &mut [u8]) {
+fn parity_turned(n: u64) {
     name(n, b" last parity bit turned");
     let t = last_block(n);
-    let p = place_of(t, 261085);
-    once(n, word_of(t / 5, p), sound(p), capture, info, parity);
+    turned(n, t / 5, place_of(t, 261085));
 }
 
-fn pairs(n: u64, capture: &mut [u8], info: &mut [u8], parity: &mut [u8]) {
-    mbas_and_crc(n, capture, info, parity);
-    word_and_filler(n, capture, info, parity);
-    crc_and_pad(n, capture, info, parity);
-    crc_twice(n, capture, info, parity);
+// ---- all of n super frames
+
+fn say_room(n: u64, room: &[u8])
+    requires { ⌜ 1412608 ≡ length (now room) ⌝ }
+{
+    let a = info_bytes(n);
+    let b = a + parity_bytes(n);
+    say_both(&room[0..a], &room[a..b]);
 }
 
-fn others(n: u64, capture: &mut [u8], info: &mut [u8], parity: &mut [u8]) {
-    repaired_filler(n, capture, info, parity);
-    parity_turned(n, capture, info, parity);
-    undamaged(n, capture, info, parity);
+fn say_made(n: u64) {
+    let mut room = space::capture_8();
+    fill(100 + n % 9, &mut room);
+    say_room(n, &room);
 }
 
-fn make(n: u64, capture: &mut [u8], info: &mut [u8], parity: &mut [u8]) {
-    let g = made::fill(made::start(100 + n % 9), info);
-    made::fill(g, parity);
-    capture::code(n, first_number(n), info, parity, capture);
-}
-
-fn start(n: u64, capture: &mut [u8], info: &mut [u8], parity: &mut [u8]) {
-    make(n, capture, info, parity);
+fn start(n: u64) {
     name(n, b" coded from:");
-    say_both(info, parity);
-}
-
-fn start_before(n: u64, info: &mut [u8], parity: &mut [u8]) {
-    before(info, parity);
+    say_made(n);
     name(n, b" buffers before:");
-    say_both(info, parity);
+    say_before(info_bytes(n), parity_bytes(n));
 }
 
-fn numbers(n: u64, capture: &mut [u8], info: &mut [u8], parity: &mut [u8]) {
-    every_word(n, capture, info, parity);
-    words(n, capture, info, parity);
-    blocks(n, capture, info, parity);
-    pads(n, capture, info, parity);
+fn readings(n: u64) {
+    start(n);
+    every_word(n);
+    words(n);
+    blocks(n);
+    pads(n);
+    mbas_and_crc(n);
+    word_and_filler(n);
+    crc_and_pad(n);
+    crc_twice(n);
+    repaired_filler(n);
+    parity_turned(n);
+    undamaged(n);
 }
 
-fn readings(n: u64, capture: &mut [u8], info: &mut [u8], parity: &mut [u8]) {
-    start(n, capture, info, parity);
-    start_before(n, info, parity);
-    numbers(n, capture, info, parity);
-    pairs(n, capture, info, parity);
-    others(n, capture, info, parity);
-}
+// ---- numbers and lengths
 
-fn one() {
-    let mut info = [0u8; 152915];
-    let mut parity = [0u8; 10240];
-    let mut capture = [0u8; 183296];
-    readings(1, &mut capture, &mut info, &mut parity);
-}
-
-fn eight() {
-    let mut info = space::info_8();
-    let mut parity = [0u8; 81920];
-    let mut capture = space::capture_8();
-    readings(8, &mut capture, &mut info, &mut parity);
+fn read_zeros(n: u64, m0: u64, capture: usize, info: usize, parity: usize) {
+    let zeros = space::capture_8();
+    let k = capture % 1412609;
+    read(n, m0, &zeros[0..k], info, parity);
 }
 
 // A call that is refused for its numbers or lengths, whatever the capture holds.
-fn refused(name: &[u8], n: u64, m0: u64, capture: &[u8], info: &mut [u8], parity: &mut [u8]) {
-    said::text(name);
+fn refused(what: &[u8], n: u64, m0: u64, capture: usize, info: usize, parity: usize) {
+    said::text(what);
     said::text(b" before:");
-    before(info, parity);
-    say_both(info, parity);
-    refused_then(name, n, m0, capture, info, parity);
+    say_before(info, parity);
+    said::text(what);
+    read_zeros(n, m0, capture, info, parity);
 }
 
-fn refused_then(name: &[u8], n: u64, m0: u64, capture: &[u8], info: &mut [u8], parity: &mut [u8]) {
-    said::text(name);
-    reading(n, m0, capture, info, parity);
+fn numbers() {
+    refused(b"N 0", 0, 7, 183296, 152915, 10240);
+    refused(b"N 9", 9, 7, 183296, 152915, 10240);
+    refused(b"m0 64", 1, 64, 183296, 152915, 10240);
 }
 
-fn outside(name: &[u8], n: u64, m0: u64) {
-    let mut info = [0u8; 152915];
-    let mut parity = [0u8; 10240];
-    let capture = [0u8; 183296];
-    refused(name, n, m0, &capture, &mut info, &mut parity);
-}
-
-fn short_capture() {
-    let mut info = [0u8; 152915];
-    let mut parity = [0u8; 10240];
-    let capture = [0u8; 183295];
-    refused(
-        b"capture one byte short",
-        1,
-        7,
-        &capture,
-        &mut info,
-        &mut parity,
-    );
-}
-
-fn long_information() {
-    let mut info = [0u8; 152916];
-    let mut parity = [0u8; 10240];
-    let capture = [0u8; 183296];
-    refused(
-        b"information one byte long",
-        1,
-        7,
-        &capture,
-        &mut info,
-        &mut parity,
-    );
-}
-
-fn short_parity() {
-    let mut info = [0u8; 152915];
-    let mut parity = [0u8; 10239];
-    let capture = [0u8; 183296];
-    refused(
-        b"parity one byte short",
-        1,
-        7,
-        &capture,
-        &mut info,
-        &mut parity,
-    );
+fn lengths() {
+    refused(b"capture one byte short", 1, 7, 183295, 152915, 10240);
+    refused(b"information one byte long", 1, 7, 183296, 152916, 10240);
+    refused(b"parity one byte short", 1, 7, 183296, 152915, 10239);
 }
 
 fn main() {
-    one();
-    eight();
-    outside(b"N 0", 0, 7);
-    outside(b"N 9", 9, 7);
-    outside(b"m0 64", 1, 64);
-    short_capture();
-    long_information();
-    short_parity();
+    readings(1);
+    readings(8);
+    numbers();
+    lengths();
 }

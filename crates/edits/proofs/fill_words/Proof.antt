@@ -7,10 +7,10 @@ use Rattle.edits.proofs.fill_words.Statement.{statement}
 use Rattle.edits.proofs.fill_words.Tie as tie
 
 abbrev Inv-loop : tie.InvT-loop
-Inv-loop seed t tails e₀ capture₀ g₀ w₀ e capture g w = (w ≤ 11456) × (length capture ≡ length capture₀) × (length e ≡ length e₀)
+Inv-loop seed capture₀ g₀ w₀ capture g w = (w ≤ 11456) × (length capture ≡ length capture₀)
 
 abbrev μ-loop : tie.MeasureT-loop
-μ-loop seed t tails e₀ capture₀ g₀ w₀ e capture g w = 11456 - w
+μ-loop seed capture₀ g₀ w₀ capture g w = 11456 - w
 
 start-requires : tie.Need-start-requires Inv-loop μ-loop
 start-requires c κs = search needs
@@ -18,17 +18,8 @@ start-requires c κs = search needs
 loop-holds : tie.Need-loop-holds Inv-loop μ-loop
 loop-holds c = search needs
 
-fill-requires : tie.Need-fill-requires Inv-loop μ-loop
-fill-requires c κs = search needs
-
-word-from-requires : tie.Need-word-from-requires Inv-loop μ-loop
-word-from-requires c κs = search needs
-
-encode-by-requires : tie.Need-encode-by-requires Inv-loop μ-loop
-encode-by-requires c κs = search needs
-
-turn-requires : tie.Need-turn-requires Inv-loop μ-loop
-turn-requires c κs = search needs
+put-word-requires : tie.Need-put-word-requires Inv-loop μ-loop
+put-word-requires c κs = search needs
 
 add-w : tie.Need-add-w Inv-loop μ-loop
 add-w c = search needs
@@ -42,9 +33,6 @@ loop-again c = search needs
 same-length : tie.Need-same-length Inv-loop μ-loop
 same-length c = search needs
 
-same-length-2 : tie.Need-same-length-2 Inv-loop μ-loop
-same-length-2 c = search needs
-
 returns : tie.Need-returns Inv-loop μ-loop
 returns c = search needs
 
@@ -56,13 +44,9 @@ fill-words-spec =
     μ-loop
     start-requires
     loop-holds
-    fill-requires
-    word-from-requires
-    encode-by-requires
-    turn-requires
+    put-word-requires
     add-w
     loop-less
     loop-again
     same-length
-    same-length-2
     returns)

@@ -1,22 +1,19 @@
--- `edits::put_client` is safe and ends. Assumes nothing.
+-- `edits::put_bits` is safe and ends. Assumes nothing.
 use Prim.Native.Nat.{_-_, _≤_}
 use mathlib.Core.Path.{_≡_}
 use lib.ListN.{length}
 use borrow.Author.Needs.{needs}
-use Rattle.edits.proofs.put_client.Statement.{statement}
-use Rattle.edits.proofs.put_client.Tie as tie
+use Rattle.edits.proofs.put_bits.Statement.{statement}
+use Rattle.edits.proofs.put_bits.Tie as tie
 
 abbrev Inv-loop : tie.InvT-loop
-Inv-loop info₀ block client i₀ info i = (i ≤ 257) × (length info ≡ length info₀)
+Inv-loop s₀ from new count i₀ i-end s i = (i ≤ i-end) × (length s ≡ length s₀)
 
 abbrev μ-loop : tie.MeasureT-loop
-μ-loop info₀ block client i₀ info i = 257 - i
+μ-loop s₀ from new count i₀ i-end s i = i-end - i
 
 loop-holds : tie.Need-loop-holds Inv-loop μ-loop
 loop-holds c = search needs
-
-mul-put-bit : tie.Need-mul-put-bit Inv-loop μ-loop
-mul-put-bit c = search needs
 
 add-put-bit : tie.Need-add-put-bit Inv-loop μ-loop
 add-put-bit c = search needs
@@ -42,14 +39,13 @@ same-length c = search needs
 returns : tie.Need-returns Inv-loop μ-loop
 returns c = search needs
 
-pub put-client-spec : {M : Type 1} → statement M
-put-client-spec =
+pub put-bits-spec : {M : Type 1} → statement M
+put-bits-spec =
     tie.close
     (tie.spec
     Inv-loop
     μ-loop
     loop-holds
-    mul-put-bit
     add-put-bit
     bit-at-requires
     put-bit-requires
