@@ -106,11 +106,17 @@ fn left_alone(r: Repaired, v: [u8; 16]) -> u64
     }
 }
 
+// A word, repaired by the lent tables.
+fn repaired(t: &[u16; 4096], positions: &[u8; 512], w: [u8; 16]) -> Repaired {
+    let c = hamming::checks_by(t, w);
+    hamming::repair_known(positions, w, c)
+}
+
 // How many of the 128 single flips are put right.
 fn single_flips(t: &[u16; 4096], positions: &[u8; 512], w: [u8; 16]) -> u64 {
     let mut n: u64 = 0;
     for i in 0..128 {
-        n = n + put_right(hamming::repair_by(t, positions, flip(w, i)), w, i);
+        n = n + put_right(repaired(t, positions, flip(w, i)), w, i);
     }
     n
 }
@@ -121,7 +127,7 @@ fn pair_beyond(t: &[u16; 4096], positions: &[u8; 512], w: [u8; 16], p: usize) ->
 {
     if p / 128 < p % 128 {
         let v = flip(flip(w, p / 128), p % 128);
-        left_alone(hamming::repair_by(t, positions, v), v)
+        left_alone(repaired(t, positions, v), v)
     } else {
         0
     }

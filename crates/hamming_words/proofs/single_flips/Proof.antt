@@ -16,8 +16,8 @@ loop-holds c = search needs
 flip-requires : tie.Need-flip-requires Inv-loop μ-loop
 flip-requires c κs = search needs
 
-repair-by-requires : tie.Need-repair-by-requires Inv-loop μ-loop
-repair-by-requires c κs = search needs
+repaired-requires : tie.Need-repaired-requires Inv-loop μ-loop
+repaired-requires c κs = search needs
 
 put-right-requires : tie.Need-put-right-requires Inv-loop μ-loop
 put-right-requires c κs = search needs
@@ -45,7 +45,7 @@ single-flips-spec =
     μ-loop
     loop-holds
     flip-requires
-    repair-by-requires
+    repaired-requires
     put-right-requires
     add-n
     add-i
