@@ -2,7 +2,10 @@
 ghost use mathlib.Core.Path.{_≡_};
 ghost use Prim.Native.Nat.{_≤_};
 ghost use lib.ListN.{length};
-ghost use Rattle.io.specs.Counts.{Counts};
+ghost use Rattle.line.specs.Sizes.{infoLength, parityLength, captureLength};
+ghost use Rattle.gmp.specs.Places.{places};
+ghost use Rattle.gmp.specs.Windows.{windowBytes};
+ghost use Rattle.zr.specs.Lengths.{Bytes, large, small, upTo, groupsLength};
 
 // A capture of eight super frames has 1,412,608 bytes, and no other file is longer.
 pub type Large = [u8; 1412609];
@@ -22,18 +25,10 @@ pub fn small_space() -> Small
     [0; 81921]
 }
 
-// As many bytes of a space as are wanted, or fewer where it has no room for them.
-pub fn fit(wanted: usize, space: &[u8]) -> usize
-    ensures { λ r. ⌜ Counts r (now (space .entry)) ⌝ }
-{
-    if 1412609 < wanted {
-        return io::count(0, space);
-    }
-    io::count(wanted as isize, space)
-}
-
 // The bytes of information of n super frames; 0 where no capture has so many.
-pub fn information(n: u64) -> usize {
+pub fn information(n: u64) -> usize
+    ensures { λ r. ⌜ Bytes large (upTo 8 infoLength n) r ⌝ }
+{
     if 8 < n {
         return 0;
     }
@@ -41,7 +36,9 @@ pub fn information(n: u64) -> usize {
 }
 
 // The bytes of parity of n super frames.
-pub fn parity(n: u64) -> usize {
+pub fn parity(n: u64) -> usize
+    ensures { λ r. ⌜ Bytes small (upTo 8 parityLength n) r ⌝ }
+{
     if 8 < n {
         return 0;
     }
@@ -49,7 +46,9 @@ pub fn parity(n: u64) -> usize {
 }
 
 // The bytes of a capture of n super frames.
-pub fn capture(n: u64) -> usize {
+pub fn capture(n: u64) -> usize
+    ensures { λ r. ⌜ Bytes large (upTo 8 captureLength n) r ⌝ }
+{
     if 8 < n {
         return 0;
     }
@@ -57,7 +56,9 @@ pub fn capture(n: u64) -> usize {
 }
 
 // The bytes of a window of n places.
-pub fn window(n: u64) -> usize {
+pub fn window(n: u64) -> usize
+    ensures { λ r. ⌜ Bytes large (upTo places windowBytes n) r ⌝ }
+{
     if gmp::PLACES < n {
         return 0;
     }
@@ -66,7 +67,9 @@ pub fn window(n: u64) -> usize {
 
 // The bytes of the groups in the window of n places from f on: "The first j places hold floor(j·C / P) data places." Where the
 // numbers are outside their sets it is 0, and mapping refuses them.
-pub fn groups(c: u64, f: u64, n: u64) -> usize {
+pub fn groups(c: u64, f: u64, n: u64) -> usize
+    ensures { λ r. ⌜ Bytes large (groupsLength c f n) r ⌝ }
+{
     if gmp::PLACES < c {
         return 0;
     }
@@ -79,18 +82,7 @@ pub fn groups(c: u64, f: u64, n: u64) -> usize {
     if f < 1 {
         return 0;
     }
-    let to = places_before(f + n, c);
-    let from = places_before(f, c);
-    if to < from {
-        return 0;
-    }
+    let to = (f - 1 + n) * c / gmp::PLACES;
+    let from = (f - 1) * c / gmp::PLACES;
     ((257 * (to - from) + 1) / 2) as usize
-}
-
-// How many of the places before j hold data.
-fn places_before(j: u64, c: u64) -> u64
-    requires { ⌜ (1 ≤ j) × (j ≤ 20440) × (c ≤ 10220) ⌝ }
-    ensures { λ r. ⌜ r ≤ 30000 ⌝ }
-{
-    (j - 1) * c / gmp::PLACES
 }

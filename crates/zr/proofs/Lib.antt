@@ -1,0 +1,4 @@
+-- The laws of `zr`.
+mod Zeros
+mod Stated
+mod Groups

@@ -1,0 +1,2 @@
+-- The definitions that the contracts of `zr` cite.
+pub mod Lengths
