@@ -1,5 +1,4 @@
 // The commands on captures. Each reads its arguments and files, and hands what it read to a function that calls the coder.
-use crate::sizes;
 use answer::Answer;
 use arguments::Number;
 use shell::files;

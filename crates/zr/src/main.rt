@@ -1,6 +1,5 @@
 // The coder for people at a shell: `zr help` says what it takes.
 mod captures;
-mod sizes;
 mod windows;
 
 use shell::said;

@@ -1,5 +1,4 @@
 // The commands on GMP places.
-use crate::sizes;
 use answer::Answer;
 use arguments::Number;
 use shell::files;

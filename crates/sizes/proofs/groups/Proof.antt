@@ -1,13 +1,13 @@
--- `zr::sizes::groups` meets its contract: the law `computed`. Assumes nothing.
+-- `sizes::groups` meets its contract: the law `computed`. Assumes nothing.
 use native.Mathlib.Omega.{arith}
 use borrow.Author.Tests.{lt-ltb, le-ltb}
 use borrow.Author.Needs.{needs}
-use Rattle.zr.specs.Lengths.{groupsLength}
-use Rattle.zr.proofs.Groups.{Computed, computed}
-use Rattle.zr.proofs.sizes.groups.Statement.{statement}
-use Rattle.zr.proofs.sizes.groups.Tie as tie
-use Rattle.zr.proofs.sizes.groups.Reads as reads
-use Rattle.zr.proofs.sizes.groups.Lts as lts
+use Rattle.sizes.specs.Lengths.{groupsLength}
+use Rattle.sizes.proofs.Counted.{Computed, computed}
+use Rattle.sizes.proofs.groups.Statement.{statement}
+use Rattle.sizes.proofs.groups.Tie as tie
+use Rattle.sizes.proofs.groups.Reads as reads
+use Rattle.sizes.proofs.groups.Lts as lts
 
 returns : tie.Need-returns
 unfolding groupsLength

@@ -7,7 +7,7 @@ use borrow.Author.Tests.{le-ltb}
 use Rattle.gmp.specs.Places.{places, dataFrom}
 use Rattle.gmp.specs.Windows.{groupBytes}
 use Rattle.gmp.proofs.Floor.{data-split, data-le}
-use Rattle.zr.specs.Lengths.{Bytes, large, groupsLength}
+use Rattle.sizes.specs.Lengths.{Bytes, groupsLength}
 
 -- both products fit a machine number, and what their quotients differ by is the number of groups, no more than there are places
 pub record Computed (c f n : ℕ) : Type 0 where
@@ -15,7 +15,7 @@ pub record Computed (c f n : ℕ) : Type 0 where
   pub from : (f - 1) * c ≤ places * places
   pub split : (f - 1) * c / places + dataFrom c f n ≡ (f - 1 + n) * c / places
   pub few : dataFrom c f n ≤ places
-  pub bytes : Bytes large (groupsLength c f n) (groupBytes ((f - 1 + n) * c / places - (f - 1) * c / places))
+  pub bytes : Bytes (groupBytes places) (groupsLength c f n) (groupBytes ((f - 1 + n) * c / places - (f - 1) * c / places))
 
 pub computed : (c f n : ℕ) → c ≤ places → n ≤ places → f ≤ places → 1 ≤ f → Computed c f n
 unfolding groupsLength

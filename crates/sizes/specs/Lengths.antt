@@ -1,4 +1,4 @@
--- The lengths of the files that `zr` takes and writes, for any numbers at all. Assumes nothing: these are definitions.
+-- The lengths of the buffers of a call, for any numbers at all. Assumes nothing: these are definitions.
 use Prim.Native.Nat.{ℕ, _≤_}
 use mathlib.Core.Bool.{Bool, cond, _||_}
 use mathlib.Core.Path.{_≡_}
@@ -6,17 +6,10 @@ use lib.Dec.{ltb}
 use Rattle.gmp.specs.Places.{places, dataFrom}
 use Rattle.gmp.specs.Windows.{groupBytes}
 
--- the two spaces, in bytes
-abbrev pub large : ℕ
-large = 1412609
-
-abbrev pub small : ℕ
-small = 81921
-
--- r is the length that is stated, and a space has room for it
-pub record Bytes (space stated r : ℕ) : Type 0 where
+-- r is the length that is stated, and no more than the greatest of its kind
+pub record Bytes (greatest stated r : ℕ) : Type 0 where
   pub is : r ≡ stated
-  pub fits : r ≤ space
+  pub fits : r ≤ greatest
 
 -- the length that is stated for n, which is 0 where n is more than the greatest number that is allowed
 abbrev pub upTo : ℕ → (ℕ → ℕ) → ℕ → ℕ

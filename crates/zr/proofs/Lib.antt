@@ -1,4 +1,0 @@
--- The laws of `zr`.
-mod Zeros
-mod Stated
-mod Groups

@@ -1,2 +1,0 @@
--- The definitions that the contracts of `zr` cite.
-pub mod Lengths
