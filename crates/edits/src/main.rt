@@ -2,7 +2,6 @@
 // afresh and read back. Then edits that are refused by each number, edits beside damage, and edits of a capture that was never coded. Every case
 // starts from a capture of its own, so that most functions take numbers alone and little is known of any buffer: that keeps the check short.
 ghost use mathlib.Core.Path.{_≡_};
-ghost use Prim.Native.Nat.{_≤_};
 ghost use lib.ListN.{length};
 use answer::Answer;
 use made::Generator;
@@ -15,31 +14,6 @@ const NO_BLOCK: u64 = 99999;
 // The first number of the FEC blocks of n super frames.
 fn first_number(n: u64) -> u64 {
     7 * (n % 9)
-}
-
-fn info_bytes(n: u64) -> usize
-    ensures { λ r. ⌜ r ≤ 1223320 ⌝ }
-{
-    152915 * ((n % 9) as usize)
-}
-
-fn parity_bytes(n: u64) -> usize
-    ensures { λ r. ⌜ r ≤ 81920 ⌝ }
-{
-    10240 * ((n % 9) as usize)
-}
-
-fn capture_bytes(n: u64) -> usize
-    ensures { λ r. ⌜ r ≤ 1412608 ⌝ }
-{
-    175616 * ((n % 9) as usize) + 7680
-}
-
-// Beside the buffers of `space`, for the parity of eight super frames.
-fn parity_8() -> [u8; 81920]
-    ensures { λ r. ⌜ 81920 ≡ length r ⌝ }
-{
-    [0u8; 81920]
 }
 
 fn fill(seed: u64, out: &mut [u8]) {
@@ -95,7 +69,7 @@ fn fill_input(n: u64, block: u64, room: &mut [u8]) {
     put_bits(room, 257 * b, &client_of(block, 0), 257);
     put_bits(
         room,
-        8 * info_bytes(n) + 16384 * (b / 952),
+        8 * sizes::information(n) + 16384 * (b / 952),
         &parity_of(block),
         16384,
     );
@@ -103,15 +77,15 @@ fn fill_input(n: u64, block: u64, room: &mut [u8]) {
 
 // Codes what fills a room.
 fn code_from(n: u64, room: &[u8], capture: &mut [u8])
-    requires { ⌜ 1412608 ≡ length (now room) ⌝ }
+    requires { ⌜ 1412609 ≡ length (now room) ⌝ }
 {
-    let a = info_bytes(n);
-    let b = a + parity_bytes(n);
+    let a = sizes::information(n);
+    let b = a + sizes::parity(n);
     capture::code(n, first_number(n), &room[0..a], &room[a..b], capture);
 }
 
 fn code(n: u64, capture: &mut [u8]) {
-    let mut room = space::capture_8();
+    let mut room = sizes::large_space();
     fill_input(n, NO_BLOCK, &mut room);
     code_from(n, &room, capture);
 }
@@ -183,7 +157,7 @@ fn say_truth(what: &[u8], truth: bool) {
 // ---- granted edits
 
 fn codes_to(n: u64, room: &[u8], capture: &[u8], other: &mut [u8]) -> bool
-    requires { ⌜ 1412608 ≡ length (now room) ⌝ }
+    requires { ⌜ 1412609 ≡ length (now room) ⌝ }
 {
     code_from(n, room, other);
     check::same(capture, other)
@@ -191,24 +165,24 @@ fn codes_to(n: u64, room: &[u8], capture: &[u8], other: &mut [u8]) -> bool
 
 // Whether the capture is what coding afresh gives from what fills a room.
 fn is_afresh(n: u64, room: &[u8], capture: &[u8]) -> bool
-    requires { ⌜ 1412608 ≡ length (now room) ⌝ }
+    requires { ⌜ 1412609 ≡ length (now room) ⌝ }
 {
-    let mut other = space::capture_8();
-    let k = capture_bytes(n);
+    let mut other = sizes::large_space();
+    let k = sizes::capture(n);
     codes_to(n, room, capture, &mut other[0..k])
 }
 
 // Whether that is what fills a room.
 fn is_input(n: u64, room: &[u8], info: &[u8], parity: &[u8]) -> bool
-    requires { ⌜ 1412608 ≡ length (now room) ⌝ }
+    requires { ⌜ 1412609 ≡ length (now room) ⌝ }
 {
-    let a = info_bytes(n);
-    let b = a + parity_bytes(n);
+    let a = sizes::information(n);
+    let b = a + sizes::parity(n);
     check::same(info, &room[0..a]) && check::same(parity, &room[a..b])
 }
 
 fn reads_into(n: u64, room: &[u8], capture: &[u8], info: &mut [u8], parity: &mut [u8]) -> bool
-    requires { ⌜ 1412608 ≡ length (now room) ⌝ }
+    requires { ⌜ 1412609 ≡ length (now room) ⌝ }
 {
     let r = capture::read(n, first_number(n), capture, info, parity);
     r.number == 0 && r.count == 0 && is_input(n, room, info, parity)
@@ -216,17 +190,17 @@ fn reads_into(n: u64, room: &[u8], capture: &[u8], info: &mut [u8], parity: &mut
 
 // Whether the capture reads back to what fills a room, with nothing to repair.
 fn reads_back(n: u64, room: &[u8], capture: &[u8]) -> bool
-    requires { ⌜ 1412608 ≡ length (now room) ⌝ }
+    requires { ⌜ 1412609 ≡ length (now room) ⌝ }
 {
-    let mut info = space::info_8();
-    let mut parity = parity_8();
-    let a = info_bytes(n);
-    let b = parity_bytes(n);
+    let mut info = sizes::large_space();
+    let mut parity = sizes::small_space();
+    let a = sizes::information(n);
+    let b = sizes::parity(n);
     reads_into(n, room, capture, &mut info[0..a], &mut parity[0..b])
 }
 
 fn say_compared(n: u64, room: &[u8], capture: &[u8])
-    requires { ⌜ 1412608 ≡ length (now room) ⌝ }
+    requires { ⌜ 1412609 ≡ length (now room) ⌝ }
 {
     say_truth(b": as coded afresh ", is_afresh(n, room, capture));
     say_truth(b" reads back ", reads_back(n, room, capture));
@@ -234,7 +208,7 @@ fn say_compared(n: u64, room: &[u8], capture: &[u8])
 }
 
 fn compare(n: u64, block: u64, capture: &[u8]) {
-    let mut room = space::capture_8();
+    let mut room = sizes::large_space();
     fill_input(n, block, &mut room);
     name_block(n, block);
     say_compared(n, &room, capture);
@@ -249,8 +223,8 @@ fn edit_coded(n: u64, block: u64, capture: &mut [u8]) {
 
 // A granted edit, compared with coding afresh and read back.
 fn grant(n: u64, block: u64) {
-    let mut capture = space::capture_8();
-    let k = capture_bytes(n);
+    let mut capture = sizes::large_space();
+    let k = sizes::capture(n);
     edit_coded(n, block, &mut capture[0..k]);
 }
 
@@ -269,8 +243,8 @@ fn edit_past(n: u64, block: u64, capture: &mut [u8]) {
 
 // The capture as it was coded, and the first block past its end.
 fn past_end(n: u64) {
-    let mut capture = space::capture_8();
-    let k = capture_bytes(n);
+    let mut capture = sizes::large_space();
+    let k = sizes::capture(n);
     edit_past(n, 4760 * (n % 9), &mut capture[0..k]);
 }
 
@@ -290,7 +264,7 @@ fn refused_in(
 }
 
 fn refused(what: &[u8], n: u64, block: u64, spare: u8, client: usize, parity: usize, list: usize) {
-    let mut capture = space::capture_8();
+    let mut capture = sizes::large_space();
     said::text(what);
     refused_in(
         n,
@@ -331,7 +305,7 @@ fn wrong_in(w: usize, i: usize, x: usize, j: usize, spare: u8, capture: &mut [u8
 
 // Bit i of word w is wrong and bit j of word x.
 fn wrong(what: &[u8], w: usize, i: usize, x: usize, j: usize, spare: u8) {
-    let mut capture = space::capture_8();
+    let mut capture = sizes::large_space();
     said::text(what);
     wrong_in(w, i, x, j, spare, &mut capture[0..183296]);
 }
@@ -372,7 +346,7 @@ fn name_beside(w: usize) {
 }
 
 fn say_kept(w: usize, capture: &[u8]) {
-    let mut room = space::capture_8();
+    let mut room = sizes::large_space();
     fill_input(1, 6, &mut room);
     name_beside(w);
     say_truth(b": kept ", is_afresh(1, &room, capture));
@@ -390,7 +364,7 @@ fn beside_in(w: usize, capture: &mut [u8]) {
 
 // Two bits of word w are wrong, which is not listed. They stay so: turned back, the capture is that of the edit without damage.
 fn beside(w: usize) {
-    let mut capture = space::capture_8();
+    let mut capture = sizes::large_space();
     beside_in(w, &mut capture[0..183296]);
 }
 
@@ -437,7 +411,7 @@ fn edit_twice(block: u64, capture: &mut [u8]) {
 
 // Valid words that no input was coded to. The same edit once more changes nothing.
 fn never_coded(block: u64) {
-    let mut capture = space::capture_8();
+    let mut capture = sizes::large_space();
     edit_twice(block, &mut capture[0..183296]);
 }
 

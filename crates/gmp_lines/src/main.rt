@@ -221,12 +221,20 @@ fn stained(mapped: &[u8]) {
 }
 
 fn first_lines() {
-    lines(b"line empty=|line empty, then 10216=\n10216\n|line 10220=10220\n|line 10221=10221\n|");
     lines(
-        b"line 0=0\n|line 00010216=00010216\n|line 2^64=18446744073709551616\n|line 10216 CR=10216\r\n|",
-    );
-    lines(
-        b"line letters=ten\n|line 10216 and no line feed=10216|line 10216, then letters=10216\nten\n|line 1 2=1 2\n|",
+        b"\
+        line empty=|\
+        line empty, then 10216=\n10216\n|\
+        line 10220=10220\n|\
+        line 10221=10221\n|\
+        line 0=0\n|\
+        line 00010216=00010216\n|\
+        line 2^64=18446744073709551616\n|\
+        line 10216 CR=10216\r\n|\
+        line letters=ten\n|\
+        line 10216 and no line feed=10216|\
+        line 10216, then letters=10216\nten\n|\
+        line 1 2=1 2\n|",
     );
 }
 

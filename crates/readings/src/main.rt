@@ -2,7 +2,6 @@
 // last place, by two numbers at once, and for numbers and lengths. Digests show what the buffers hold after each call. Every case starts from a
 // capture of its own, so that most functions take numbers alone and little is known of any buffer: that keeps the check short.
 ghost use mathlib.Core.Path.{_≡_};
-ghost use Prim.Native.Nat.{_≤_};
 ghost use lib.ListN.{length};
 use answer::Answer;
 
@@ -16,46 +15,21 @@ fn first_number(n: u64) -> u64 {
     7 * (n % 9)
 }
 
-fn info_bytes(n: u64) -> usize
-    ensures { λ r. ⌜ r ≤ 1223320 ⌝ }
-{
-    152915 * ((n % 9) as usize)
-}
-
-fn parity_bytes(n: u64) -> usize
-    ensures { λ r. ⌜ r ≤ 81920 ⌝ }
-{
-    10240 * ((n % 9) as usize)
-}
-
-fn capture_bytes(n: u64) -> usize
-    ensures { λ r. ⌜ r ≤ 1412608 ⌝ }
-{
-    175616 * ((n % 9) as usize) + 7680
-}
-
-// Beside the buffers of `space`, for the parity of eight super frames.
-fn parity_8() -> [u8; 81920]
-    ensures { λ r. ⌜ 81920 ≡ length r ⌝ }
-{
-    [0u8; 81920]
-}
-
 fn fill(seed: u64, out: &mut [u8]) {
     made::fill(made::start(seed), out);
 }
 
 // Codes what fills a room: the information of n super frames and behind it their parity.
 fn code_from(n: u64, room: &[u8], capture: &mut [u8])
-    requires { ⌜ 1412608 ≡ length (now room) ⌝ }
+    requires { ⌜ 1412609 ≡ length (now room) ⌝ }
 {
-    let a = info_bytes(n);
-    let b = a + parity_bytes(n);
+    let a = sizes::information(n);
+    let b = a + sizes::parity(n);
     capture::code(n, first_number(n), &room[0..a], &room[a..b], capture);
 }
 
 fn code(n: u64, capture: &mut [u8]) {
-    let mut room = space::capture_8();
+    let mut room = sizes::large_space();
     fill(100 + n % 9, &mut room);
     code_from(n, &room, capture);
 }
@@ -86,10 +60,10 @@ fn before_in(info: &mut [u8], parity: &mut [u8]) {
 
 // Writes what they are full of, at the lengths given.
 fn say_before(info: usize, parity: usize) {
-    let mut i = space::info_8();
-    let mut p = parity_8();
-    let a = info % 1223321;
-    let b = parity % 81921;
+    let mut i = sizes::large_space();
+    let mut p = sizes::small_space();
+    let a = info % 1412610;
+    let b = parity % 81922;
     before_in(&mut i[0..a], &mut p[0..b]);
 }
 
@@ -101,16 +75,16 @@ fn read_in(n: u64, m0: u64, capture: &[u8], info: &mut [u8], parity: &mut [u8]) 
 
 // Reads into buffers of the lengths given and writes what came.
 fn read(n: u64, m0: u64, capture: &[u8], info: usize, parity: usize) {
-    let mut i = space::info_8();
-    let mut p = parity_8();
-    let a = info % 1223321;
-    let b = parity % 81921;
+    let mut i = sizes::large_space();
+    let mut p = sizes::small_space();
+    let a = info % 1412610;
+    let b = parity % 81922;
     read_in(n, m0, capture, &mut i[0..a], &mut p[0..b]);
 }
 
 // The same with buffers of the stated lengths.
 fn read_stated(n: u64, m0: u64, capture: &[u8]) {
-    read(n, m0, capture, info_bytes(n), parity_bytes(n));
+    read(n, m0, capture, sizes::information(n), sizes::parity(n));
 }
 
 fn name(n: u64, what: &[u8]) {
@@ -167,8 +141,8 @@ fn damaged_in(n: u64, m0: u64, w: usize, v: [u8; 16], x: usize, u: [u8; 16], cap
 }
 
 fn counted_from(n: u64, m0: u64, w: usize, v: [u8; 16], x: usize, u: [u8; 16]) {
-    let mut capture = space::capture_8();
-    let k = capture_bytes(n);
+    let mut capture = sizes::large_space();
+    let k = sizes::capture(n);
     damaged_in(n, m0, w, v, x, u, &mut capture[0..k]);
 }
 
@@ -214,8 +188,8 @@ fn all_in(n: u64, capture: &mut [u8]) {
 }
 
 fn every_word(n: u64) {
-    let mut capture = space::capture_8();
-    let k = capture_bytes(n);
+    let mut capture = sizes::large_space();
+    let k = sizes::capture(n);
     name(n, b" one flip in every word");
     all_in(n, &mut capture[0..k]);
 }
@@ -314,15 +288,15 @@ fn parity_turned(n: u64) {
 // ---- all of n super frames
 
 fn say_room(n: u64, room: &[u8])
-    requires { ⌜ 1412608 ≡ length (now room) ⌝ }
+    requires { ⌜ 1412609 ≡ length (now room) ⌝ }
 {
-    let a = info_bytes(n);
-    let b = a + parity_bytes(n);
+    let a = sizes::information(n);
+    let b = a + sizes::parity(n);
     say_both(&room[0..a], &room[a..b]);
 }
 
 fn say_made(n: u64) {
-    let mut room = space::capture_8();
+    let mut room = sizes::large_space();
     fill(100 + n % 9, &mut room);
     say_room(n, &room);
 }
@@ -331,7 +305,7 @@ fn start(n: u64) {
     name(n, b" coded from:");
     say_made(n);
     name(n, b" buffers before:");
-    say_before(info_bytes(n), parity_bytes(n));
+    say_before(sizes::information(n), sizes::parity(n));
 }
 
 fn readings(n: u64) {
@@ -352,8 +326,8 @@ fn readings(n: u64) {
 // ---- numbers and lengths
 
 fn read_zeros(n: u64, m0: u64, capture: usize, info: usize, parity: usize) {
-    let zeros = space::capture_8();
-    let k = capture % 1412609;
+    let zeros = sizes::large_space();
+    let k = capture % 1412610;
     read(n, m0, &zeros[0..k], info, parity);
 }
 

@@ -1,78 +1,87 @@
 // The commands on captures. Each reads its arguments and files, and hands what it read to a function that calls the coder.
-use crate::files;
-use crate::said;
-use crate::sizes;
+use answer::Answer;
 use arguments::Number;
+use shell::files;
+use shell::said;
 
 // zr code N M0 INFO PARITY CAPTURE
-pub fn code(a: &mut [u8], p: &mut [u8], b: &mut [u8]) {
+pub fn code() {
     let Number::Is(n) = files::number_at(2, b"N") else {
         return;
     };
     let Number::Is(m0) = files::number_at(3, b"M0") else {
         return;
     };
-    let info = files::load(4, a);
-    if !info.fine {
+    let mut info = sizes::large_space();
+    let i = files::load(4, &mut info);
+    if !i.fine {
         return;
     }
-    let parity = files::load(5, p);
-    if !parity.fine {
+    let mut parity = sizes::small_space();
+    let j = files::load(5, &mut parity);
+    if !j.fine {
         return;
     }
-    code_loaded(n, m0, a, info.bytes, p, parity.bytes, b);
+    let mut capture = sizes::large_space();
+    let a = i.bytes;
+    let b = j.bytes;
+    let k = sizes::capture(n);
+    code_files(n, m0, &info[0..a], &parity[0..b], &mut capture[0..k]);
 }
 
-fn code_loaded(n: u64, m0: u64, a: &[u8], info: usize, p: &[u8], parity: usize, b: &mut [u8]) {
-    let i = sizes::fit(info, a);
-    let j = sizes::fit(parity, p);
-    let k = sizes::fit(sizes::capture(n), b);
-    let answer = capture::code(n, m0, &a[..i], &p[..j], &mut b[..k]);
+fn code_files(n: u64, m0: u64, info: &[u8], parity: &[u8], capture: &mut [u8]) {
+    let answer = capture::code(n, m0, info, parity, capture);
     if answer.number != 0 {
-        said::refused(answer);
-        said::sets(answer, b"  N is 1 to 8 and M0 is 0 to 63\n");
-        said::length(answer, b"INFO", i, sizes::information(n));
-        said::length(answer, b"PARITY", j, sizes::parity(n));
+        refused(answer);
+        said::length(answer, b"INFO", info.len(), sizes::information(n));
+        said::length(answer, b"PARITY", parity.len(), sizes::parity(n));
         return;
     }
-    if files::save(6, b, k) {
-        said::done(answer.count, b" word\n", b" words\n");
+    if files::save(6, capture) {
+        said::done_words(answer.count, b"\n");
     }
+}
+
+fn refused(answer: Answer) {
+    said::refused(answer);
+    said::sets(answer, b"  N is 1 to 8 and M0 is 0 to 63\n");
 }
 
 // zr read N M0 CAPTURE INFO PARITY
-pub fn read(a: &mut [u8], b: &mut [u8], p: &mut [u8]) {
+pub fn read() {
     let Number::Is(n) = files::number_at(2, b"N") else {
         return;
     };
     let Number::Is(m0) = files::number_at(3, b"M0") else {
         return;
     };
-    let taken = files::load(4, a);
-    if !taken.fine {
+    let mut capture = sizes::large_space();
+    let k = files::load(4, &mut capture);
+    if !k.fine {
         return;
     }
-    read_loaded(n, m0, a, taken.bytes, b, p);
+    let mut info = sizes::large_space();
+    let mut parity = sizes::small_space();
+    let a = k.bytes;
+    let i = sizes::information(n);
+    let j = sizes::parity(n);
+    read_file(n, m0, &capture[0..a], &mut info[0..i], &mut parity[0..j]);
 }
 
-fn read_loaded(n: u64, m0: u64, a: &[u8], taken: usize, b: &mut [u8], p: &mut [u8]) {
-    let i = sizes::fit(taken, a);
-    let j = sizes::fit(sizes::information(n), b);
-    let k = sizes::fit(sizes::parity(n), p);
-    let answer = capture::read(n, m0, &a[..i], &mut b[..j], &mut p[..k]);
+fn read_file(n: u64, m0: u64, capture: &[u8], info: &mut [u8], parity: &mut [u8]) {
+    let answer = capture::read(n, m0, capture, info, parity);
     if answer.number != 0 {
-        said::refused(answer);
-        said::sets(answer, b"  N is 1 to 8 and M0 is 0 to 63\n");
-        said::length(answer, b"CAPTURE", i, sizes::capture(n));
+        refused(answer);
+        said::length(answer, b"CAPTURE", capture.len(), sizes::capture(n));
         return;
     }
-    if files::save(5, b, j) && files::save(6, p, k) {
-        said::done(answer.count, b" word repaired\n", b" words repaired\n");
+    if files::save(5, info) && files::save(6, parity) {
+        said::done_words(answer.count, b" repaired\n");
     }
 }
 
 // zr edit N BLOCK BITS PARITY CAPTURE OUT
-pub fn edit(p: &mut [u8], a: &mut [u8]) {
+pub fn edit() {
     let Number::Is(n) = files::number_at(2, b"N") else {
         return;
     };
@@ -80,46 +89,39 @@ pub fn edit(p: &mut [u8], a: &mut [u8]) {
         return;
     };
     let mut bits = [0u8; 34];
-    let new = files::load(4, &mut bits);
-    if !new.fine {
+    let i = files::load(4, &mut bits);
+    if !i.fine {
         return;
     }
-    let parity = files::load(5, p);
-    if !parity.fine {
+    let mut parity = sizes::small_space();
+    let j = files::load(5, &mut parity);
+    if !j.fine {
         return;
     }
-    let taken = files::load(6, a);
-    if !taken.fine {
+    let mut capture = sizes::large_space();
+    let k = files::load(6, &mut capture);
+    if !k.fine {
         return;
     }
-    edit_loaded(n, block, &bits, new.bytes, p, parity.bytes, a, taken.bytes);
+    let a = i.bytes;
+    let b = j.bytes;
+    let c = k.bytes;
+    edit_files(n, block, &bits[0..a], &parity[0..b], &mut capture[0..c]);
 }
 
-fn edit_loaded(
-    n: u64,
-    block: u64,
-    bits: &[u8],
-    new: usize,
-    p: &[u8],
-    parity: usize,
-    a: &mut [u8],
-    taken: usize,
-) {
-    let i = sizes::fit(new, bits);
-    let j = sizes::fit(parity, p);
-    let k = sizes::fit(taken, a);
+fn edit_files(n: u64, block: u64, bits: &[u8], parity: &[u8], capture: &mut [u8]) {
     let mut list = [0u64; 145];
-    let answer = capture::edit(n, block, &bits[..i], &p[..j], &mut a[..k], &mut list);
+    let answer = capture::edit(n, block, bits, parity, capture, &mut list);
     if answer.number != 0 {
         said::refused(answer);
         said::sets(answer, b"  N is 1 to 8 and BLOCK is 0 to 4760 N - 1\n");
-        said::length(answer, b"BITS", i, 33);
-        said::length(answer, b"PARITY", j, 2048);
-        said::length(answer, b"CAPTURE", k, sizes::capture(n));
+        said::length(answer, b"BITS", bits.len(), 33);
+        said::length(answer, b"PARITY", parity.len(), 2048);
+        said::length(answer, b"CAPTURE", capture.len(), sizes::capture(n));
         return;
     }
-    if files::save(7, a, k) {
-        said::done(answer.count, b" word rewritten:", b" words rewritten:");
+    if files::save(7, capture) {
+        said::done_words(answer.count, b" rewritten:");
         said::words(&list, answer.count);
     }
 }

@@ -1,16 +1,15 @@
 // The coder for people at a shell: `zr help` says what it takes.
 mod captures;
-mod files;
-mod said;
-mod sizes;
 mod windows;
 
+use shell::said;
+
+// `Convert` is map, or unmap where it is so.
 enum Command {
     Code,
     Read,
     Edit,
-    Map,
-    Unmap,
+    Convert(bool),
     Runs,
     Help,
     Unknown,
@@ -28,10 +27,10 @@ fn command_of(word: &[u8], arguments: usize) -> Command {
         return Command::Edit;
     }
     if check::same(word, b"map") && arguments == 7 {
-        return Command::Map;
+        return Command::Convert(false);
     }
     if check::same(word, b"unmap") && arguments == 7 {
-        return Command::Unmap;
+        return Command::Convert(true);
     }
     if check::same(word, b"runs") && arguments == 3 {
         return Command::Runs;
@@ -42,29 +41,17 @@ fn command_of(word: &[u8], arguments: usize) -> Command {
     Command::Unknown
 }
 
-// The files of one command at a time lie in these three, which are most of the stack that the program uses.
-fn on_files(command: Command) {
-    let mut first = sizes::large_space();
-    let mut second = sizes::large_space();
-    let mut parity = sizes::small_space();
-    match command {
-        Command::Code => captures::code(&mut first, &mut parity, &mut second),
-        Command::Read => captures::read(&mut first, &mut second, &mut parity),
-        Command::Edit => captures::edit(&mut parity, &mut first),
-        Command::Map => windows::map(&mut first, &mut second),
-        Command::Unmap => windows::unmap(&mut first, &mut second),
-        _ => {}
-    }
-}
-
 fn main() {
     let mut word = io::buffer();
     let k = os::arg(1, &mut word);
     let command = command_of(&word[..k], os::arg_count());
     match command {
-        Command::Help => said::help(),
+        Command::Code => captures::code(),
+        Command::Read => captures::read(),
+        Command::Edit => captures::edit(),
+        Command::Convert(unmapping) => windows::convert(unmapping),
         Command::Runs => windows::runs(),
+        Command::Help => said::help(),
         Command::Unknown => said::unknown(),
-        _ => on_files(command),
     }
 }

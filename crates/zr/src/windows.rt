@@ -1,44 +1,12 @@
 // The commands on GMP places.
-use crate::files;
-use crate::said;
-use crate::sizes;
 use answer::Answer;
 use arguments::Number;
+use shell::files;
+use shell::said;
 
 // zr map C F N GROUPS WINDOW
-pub fn map(a: &mut [u8], b: &mut [u8]) {
-    let Number::Is(c) = files::number_at(2, b"C") else {
-        return;
-    };
-    let Number::Is(f) = files::number_at(3, b"F") else {
-        return;
-    };
-    let Number::Is(n) = files::number_at(4, b"N") else {
-        return;
-    };
-    let groups = files::load(5, a);
-    if !groups.fine {
-        return;
-    }
-    map_loaded(c, f, n, a, groups.bytes, b);
-}
-
-fn map_loaded(c: u64, f: u64, n: u64, a: &[u8], groups: usize, b: &mut [u8]) {
-    let i = sizes::fit(groups, a);
-    let j = sizes::fit(sizes::window(n), b);
-    let answer = gmp::map(c, f, n, &a[..i], &mut b[..j]);
-    if answer.number != 0 {
-        refused(answer);
-        said::length(answer, b"GROUPS", i, sizes::groups(c, f, n));
-        return;
-    }
-    if files::save(6, b, j) {
-        said::done(answer.count, b" group\n", b" groups\n");
-    }
-}
-
 // zr unmap C F N WINDOW GROUPS
-pub fn unmap(a: &mut [u8], b: &mut [u8]) {
+pub fn convert(unmapping: bool) {
     let Number::Is(c) = files::number_at(2, b"C") else {
         return;
     };
@@ -48,24 +16,49 @@ pub fn unmap(a: &mut [u8], b: &mut [u8]) {
     let Number::Is(n) = files::number_at(4, b"N") else {
         return;
     };
-    let window = files::load(5, a);
-    if !window.fine {
+    let mut from = sizes::large_space();
+    let loaded = files::load(5, &mut from);
+    if !loaded.fine {
         return;
     }
-    unmap_loaded(c, f, n, a, window.bytes, b);
+    let i = loaded.bytes;
+    convert_file(unmapping, c, f, n, &from[0..i]);
 }
 
-fn unmap_loaded(c: u64, f: u64, n: u64, a: &[u8], window: usize, b: &mut [u8]) {
-    let i = sizes::fit(window, a);
-    let j = sizes::fit(sizes::groups(c, f, n), b);
-    let answer = gmp::unmap(c, f, n, &a[..i], &mut b[..j]);
+fn convert_file(unmapping: bool, c: u64, f: u64, n: u64, from: &[u8]) {
+    let mut to = sizes::large_space();
+    if unmapping {
+        let k = sizes::groups(c, f, n);
+        unmap(c, f, n, from, &mut to[0..k]);
+    } else {
+        let k = sizes::window(n);
+        map(c, f, n, from, &mut to[0..k]);
+    }
+}
+
+fn map(c: u64, f: u64, n: u64, groups: &[u8], window: &mut [u8]) {
+    let answer = gmp::map(c, f, n, groups, window);
     if answer.number != 0 {
         refused(answer);
-        said::length(answer, b"WINDOW", i, sizes::window(n));
+        said::length(answer, b"GROUPS", groups.len(), sizes::groups(c, f, n));
         return;
     }
-    if files::save(6, b, j) {
-        said::done(answer.count, b" group\n", b" groups\n");
+    save(answer.count, window);
+}
+
+fn unmap(c: u64, f: u64, n: u64, window: &[u8], groups: &mut [u8]) {
+    let answer = gmp::unmap(c, f, n, window, groups);
+    if answer.number != 0 {
+        refused(answer);
+        said::length(answer, b"WINDOW", window.len(), sizes::window(n));
+        return;
+    }
+    save(answer.count, groups);
+}
+
+fn save(count: u64, bytes: &[u8]) {
+    if files::save(6, bytes) {
+        said::done(count, b" group", b"\n");
     }
 }
 

@@ -1,8 +1,8 @@
--- `zr::said::words` is safe and ends: the measure is the entries that are left. Assumes nothing.
+-- `shell::said::words` is safe and ends: the measure is the entries that are left. Assumes nothing.
 use Prim.Native.Nat.{_-_, _≤_}
 use borrow.Author.Needs.{needs}
-use Rattle.zr.proofs.said.words.Statement.{statement}
-use Rattle.zr.proofs.said.words.Tie as tie
+use Rattle.shell.proofs.said.words.Statement.{statement}
+use Rattle.shell.proofs.said.words.Tie as tie
 
 abbrev Inv-loop : tie.InvT-loop
 Inv-loop list count k₀ k = k ≤ 145

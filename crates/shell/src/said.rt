@@ -10,15 +10,19 @@ fn say_number(number: u64) {
     io::print_decimal(STDOUT_FILENO, number);
 }
 
-// Done, with a count and what it counts: one of them, or any other number.
-pub fn done(count: u64, one: &[u8], many: &[u8]) {
+// Done, with a count, what it counts and what was done with it.
+pub fn done(count: u64, what: &[u8], then: &[u8]) {
     say(b"done: ");
     say_number(count);
-    if count == 1 {
-        say(one);
-    } else {
-        say(many);
+    say(what);
+    if count != 1 {
+        say(b"s");
     }
+    say(then);
+}
+
+pub fn done_words(count: u64, then: &[u8]) {
+    done(count, b" word", then);
 }
 
 // Refused, with the number, the place and what they mean.
@@ -132,35 +136,19 @@ pub fn unknown() {
 }
 
 pub fn help() {
-    say(b"zr code  N M0 INFO PARITY CAPTURE        codes N super frames into the file CAPTURE\n");
     say(
-        b"zr read  N M0 CAPTURE INFO PARITY        reads them back and repairs one wrong bit in each word\n",
-    );
-    say(
-        b"zr edit  N BLOCK BITS PARITY CAPTURE OUT replaces a client block and its FEC block's parity, and lists the words\n",
-    );
-    say(
-        b"zr map   C F N GROUPS WINDOW             puts data groups into the window of N places from place F on\n",
-    );
-    say(b"zr unmap C F N WINDOW GROUPS             takes them out again\n");
-    say(
-        b"zr runs  C                               lists the runs of data and stuff places under the count C\n",
-    );
-    say(b"zr help                                  this text\n");
-    help_files();
-}
-
-fn help_files() {
-    say(
-        b"\nN is 1 to 8 super frames and M0, where the FEC blocks count from, 0 to 63. INFO has 152915 bytes for each\n",
-    );
-    say(
-        b"super frame, PARITY 10240, and CAPTURE 175616 and 7680 more. For an edit BLOCK is 0 to 4760 N - 1, BITS has 33 bytes\n",
-    );
-    say(
-        b"(257 bits, seven zero bits) and PARITY 2048. C is 0 to 10220, F odd, N even. Files that are written stand last.\n",
-    );
-    say(
-        b"An answer begins `done`, `refused` and a number of the scope's table, or `failed`. A refusal writes no file.\n",
+        b"\
+        zr code  N M0 INFO PARITY CAPTURE        codes N super frames into the file CAPTURE\n\
+        zr read  N M0 CAPTURE INFO PARITY        reads them back and repairs one wrong bit in each word\n\
+        zr edit  N BLOCK BITS PARITY CAPTURE OUT replaces a client block and its FEC block's parity, and lists the words\n\
+        zr map   C F N GROUPS WINDOW             puts data groups into the window of N places from place F on\n\
+        zr unmap C F N WINDOW GROUPS             takes them out again\n\
+        zr runs  C                               lists the runs of data and stuff places under the count C\n\
+        zr help                                  this text\n\
+        \n\
+        N is 1 to 8 super frames and M0, where the FEC blocks count from, 0 to 63. INFO has 152915 bytes for each\n\
+        super frame, PARITY 10240, and CAPTURE 175616 and 7680 more. For an edit BLOCK is 0 to 4760 N - 1, BITS has 33 bytes\n\
+        (257 bits, seven zero bits) and PARITY 2048. C is 0 to 10220, F odd, N even. Files that are written stand last.\n\
+        An answer begins `done`, `refused` and a number of the scope's table, or `failed`. A refusal writes no file.\n",
     );
 }

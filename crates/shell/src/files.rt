@@ -1,7 +1,7 @@
 // The files and numbers that the arguments name. What goes wrong with one is said here, once.
 ghost use Prim.Native.Nat.{_≤_, _<_};
+ghost use lib.ListN.{length};
 use crate::said;
-use crate::sizes;
 use arguments::Number;
 
 // Whether a file could be read, and how many of its bytes are in the space that was lent.
@@ -22,14 +22,26 @@ pub fn number_at(i: usize, name: &[u8]) -> Number {
     read
 }
 
+fn failed(path: &[u8], why: &[u8]) {
+    os::fail(path);
+    said::failed(path, why);
+}
+
 // Reads the file that argument i names, to its end or until `into` is full.
-pub fn load(i: usize, into: &mut [u8]) -> Loaded {
+pub fn load(i: usize, into: &mut [u8]) -> Loaded
+    ensures { λ r. ⌜ r .bytes ≤ length (now (into .exit)) ⌝ }
+{
     let mut path = io::buffer();
     let k = os::arg(i, &mut path);
-    let fd = os::open_read(&path[..k]);
+    load_from(&path[..k], into)
+}
+
+fn load_from(path: &[u8], into: &mut [u8]) -> Loaded
+    ensures { λ r. ⌜ r .bytes ≤ length (now (into .exit)) ⌝ }
+{
+    let fd = os::open_read(path);
     if fd < 0 {
-        os::fail(&path[..k]);
-        said::failed(&path[..k], b" cannot be opened\n");
+        failed(path, b" cannot be opened\n");
         return Loaded {
             fine: false,
             bytes: 0,
@@ -37,15 +49,16 @@ pub fn load(i: usize, into: &mut [u8]) -> Loaded {
     }
     let loaded = read_all(fd, into);
     if !loaded.fine {
-        os::fail(&path[..k]);
-        said::failed(&path[..k], b" cannot be read\n");
+        failed(path, b" cannot be read\n");
     }
     libc::close(fd);
     loaded
 }
 
 // A read that moves nothing ends the file, or fails.
-fn read_all(fd: i32, into: &mut [u8]) -> Loaded {
+fn read_all(fd: i32, into: &mut [u8]) -> Loaded
+    ensures { λ r. ⌜ r .bytes ≤ length (now (into .exit)) ⌝ }
+{
     let mut done = 0;
     while done < into.len() {
         let got = libc::read(fd, &mut into[done..]);
@@ -74,21 +87,22 @@ fn moved(done: usize, more: usize, all: usize) -> usize
     done + more
 }
 
-// Writes the first bytes of a space to the file that argument i names, over what was there.
-pub fn save(i: usize, space: &[u8], bytes: usize) -> bool {
+// Writes bytes to the file that argument i names, over what was there.
+pub fn save(i: usize, bytes: &[u8]) -> bool {
     let mut path = io::buffer();
     let k = os::arg(i, &mut path);
-    let fd = os::open_overwrite(&path[..k]);
+    save_to(&path[..k], bytes)
+}
+
+fn save_to(path: &[u8], bytes: &[u8]) -> bool {
+    let fd = os::open_overwrite(path);
     if fd < 0 {
-        os::fail(&path[..k]);
-        said::failed(&path[..k], b" cannot be opened for writing\n");
+        failed(path, b" cannot be opened for writing\n");
         return false;
     }
-    let n = sizes::fit(bytes, space);
-    let written = io::write_all(fd, &space[..n]);
+    let written = io::write_all(fd, bytes);
     if !written {
-        os::fail(&path[..k]);
-        said::failed(&path[..k], b" cannot be written, and is not whole\n");
+        failed(path, b" cannot be written, and is not whole\n");
     }
     libc::close(fd);
     written

@@ -1,10 +1,10 @@
--- `zr::files::read_all` is safe and ends: the measure is the room that is left. Assumes nothing.
+-- `shell::files::read_all` is safe and ends: the measure is the room that is left. Assumes nothing.
 use Prim.Native.Nat.{_-_, _≤_}
 use mathlib.Core.Path.{_≡_}
 use lib.ListN.{length}
 use borrow.Author.Needs.{needs}
-use Rattle.zr.proofs.files.read_all.Statement.{statement}
-use Rattle.zr.proofs.files.read_all.Tie as tie
+use Rattle.shell.proofs.files.read_all.Statement.{statement}
+use Rattle.shell.proofs.files.read_all.Tie as tie
 
 abbrev Inv-loop : tie.InvT-loop
 Inv-loop fd into₀ done₀ into done = (done ≤ length into) × (length into ≡ length into₀)

@@ -1,0 +1,22 @@
+-- `sizes::capture` meets its contract: the laws `beyond` and `within`. Assumes nothing.
+use native.Mathlib.Omega.{arith}
+use borrow.Author.Needs.{needs}
+use Rattle.line.specs.Sizes.{captureLength}
+use Rattle.sizes.proofs.Stated.{beyond, within}
+use Rattle.sizes.proofs.capture.Statement.{statement}
+use Rattle.sizes.proofs.capture.Tie as tie
+
+returns : tie.Need-returns
+returns c = beyond 8 captureLength (c .before .args .n) (c .if1 .taken)
+
+mul-result : tie.Need-mul-result
+mul-result c = search needs
+
+add-result : tie.Need-add-result
+add-result c = search needs
+
+returns-2 : tie.Need-returns-2
+returns-2 c = within 8 captureLength (c .before .args .n) (c .if1 .left) (omega arith)
+
+pub capture-spec : {M : Type 1} → statement M
+capture-spec = tie.close (tie.spec returns mul-result add-result returns-2)

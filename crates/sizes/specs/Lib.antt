@@ -1,0 +1,2 @@
+-- The definitions that the contracts of `sizes` cite.
+pub mod Lengths

@@ -1,0 +1,89 @@
+// The lengths of the buffers of a call, for any numbers at all, and spaces that have room for them.
+ghost use mathlib.Core.Path.{_≡_};
+ghost use lib.ListN.{length, replicate};
+ghost use Rattle.line.specs.Sizes.{infoLength, parityLength, captureLength};
+ghost use Rattle.gmp.specs.Places.{places};
+ghost use Rattle.gmp.specs.Windows.{groupBytes, windowBytes};
+ghost use Rattle.sizes.specs.Lengths.{Bytes, upTo, groupsLength};
+
+// A capture of eight super frames has 1,412,608 bytes, and no other buffer is longer. A space has one byte more, so that what is too long is seen.
+pub type Large = [u8; 1412609];
+
+// The parity of eight super frames has 81,920 bytes.
+pub type Small = [u8; 81921];
+
+pub fn large_space() -> Large
+    ensures { λ r. ⌜ 1412609 ≡ length r ⌝ }
+    ensures { λ r. ⌜ r ≡ replicate 1412609 0 ⌝ }
+{
+    [0; 1412609]
+}
+
+pub fn small_space() -> Small
+    ensures { λ r. ⌜ 81921 ≡ length r ⌝ }
+    ensures { λ r. ⌜ r ≡ replicate 81921 0 ⌝ }
+{
+    [0; 81921]
+}
+
+// The bytes of information of n super frames; 0 where no capture has so many.
+pub fn information(n: u64) -> usize
+    ensures { λ r. ⌜ Bytes (infoLength 8) (upTo 8 infoLength n) r ⌝ }
+{
+    if 8 < n {
+        return 0;
+    }
+    152915 * (n as usize)
+}
+
+// The bytes of parity of n super frames.
+pub fn parity(n: u64) -> usize
+    ensures { λ r. ⌜ Bytes (parityLength 8) (upTo 8 parityLength n) r ⌝ }
+{
+    if 8 < n {
+        return 0;
+    }
+    10240 * (n as usize)
+}
+
+// The bytes of a capture of n super frames.
+pub fn capture(n: u64) -> usize
+    ensures { λ r. ⌜ Bytes (captureLength 8) (upTo 8 captureLength n) r ⌝ }
+{
+    if 8 < n {
+        return 0;
+    }
+    175616 * (n as usize) + 7680
+}
+
+// The bytes of a window of n places.
+pub fn window(n: u64) -> usize
+    ensures { λ r. ⌜ Bytes (windowBytes places) (upTo places windowBytes n) r ⌝ }
+{
+    if gmp::PLACES < n {
+        return 0;
+    }
+    257 * (n as usize) / 2
+}
+
+// The bytes of the groups in the window of n places from f on: "The first j places hold floor(j·C / P) data places." Where the
+// numbers are outside their sets it is 0, and mapping refuses them.
+pub fn groups(c: u64, f: u64, n: u64) -> usize
+    ensures { λ r. ⌜ Bytes (groupBytes places) (groupsLength c f n) r ⌝ }
+{
+    if gmp::PLACES < c {
+        return 0;
+    }
+    if gmp::PLACES < n {
+        return 0;
+    }
+    if gmp::PLACES < f {
+        return 0;
+    }
+    if f < 1 {
+        return 0;
+    }
+    let to = (f - 1 + n) * c / gmp::PLACES;
+    let from = (f - 1) * c / gmp::PLACES;
+    ((257 * (to - from) + 1) / 2) as usize
+}
