@@ -64,7 +64,7 @@ fn code_from(n: u64, capture: &mut [u8], info: &mut [u8], parity: &mut [u8]) {
     part(n, info);
 }
 
-// With the buffers of m super frames, zeros but for the input.
+// With the buffers of m super frames, zeros but for the input. The parity's is cut from one as long as the information's.
 fn code(n: u64, m: usize, capture: &mut [u8]) {
     let k = m % 9;
     let mut info = space::info_8();
