@@ -1085,9 +1085,6 @@ fn capture_edge(n: u64, buffers: u64) -> String {
     text += &change(" capture", before, digest(&captured));
     text += &both_digests("", &information, &parity);
 
-    let (answer, part) = capture::part(n, 0, &information);
-    text += &format!("N {} part 0: {} bytes {}\n", n, shown(answer), part.len());
-
     let mut damaged = captured.clone();
     for w in 0..damaged.len() / 16 {
         flip(&mut damaged, w, (w * 37 + 11) % WORD_BITS);

@@ -46,14 +46,6 @@ fn say_inputs(info: &[u8], parity: &[u8]) {
     said::text(b"\n");
 }
 
-fn part(n: u64, info: &[u8]) {
-    said::number(b"N ", n);
-    said::outcome(b" part 0: ", capture::information_answer(n, 0, info));
-    let p = capture::information(n, 0, info);
-    said::number(b" bytes ", p.len() as u64);
-    said::text(b"\n");
-}
-
 fn code_from(n: u64, capture: &mut [u8], info: &mut [u8], parity: &mut [u8]) {
     let g = made::fill(made::start(100 + n % 10), info);
     made::fill(g, parity);
@@ -61,10 +53,9 @@ fn code_from(n: u64, capture: &mut [u8], info: &mut [u8], parity: &mut [u8]) {
     let r = capture::code(n, 7, info, parity, capture);
     say_code(n, r, before, made::digest(capture));
     say_inputs(info, parity);
-    part(n, info);
 }
 
-// With the buffers of m super frames, zeros but for the input.
+// With the buffers of m super frames, zeros but for the input. The parity's is cut from one as long as the information's.
 fn code(n: u64, m: usize, capture: &mut [u8]) {
     let k = m % 9;
     let mut info = space::info_8();
