@@ -1,7 +1,7 @@
--- Small laws that several crates cite: one answer only, tests that hold together, a number below a bound or not, two functions that one test
+-- Small laws that several crates cite: one answer only, tests that hold together, or do not, a number below a bound or not, two functions that one test
 -- finds equal, and an xor that is zero. Assumes nothing.
 use Prim.Native.Nat.{ℕ, _<_, _≤_}
-use mathlib.Core.Bool.{Bool, true, false, _&&_}
+use mathlib.Core.Bool.{Bool, true, false, _&&_, _||_}
 use mathlib.Core.Path.{_≡_, refl, sym, ap, _∙_}
 use native.Mathlib.Decide.{decLt}
 use native.Mathlib.Omega.{arith}
@@ -26,6 +26,15 @@ and-left false b e = e
 pub and-right : (a b : Bool) → a && b ≡ true → b ≡ true
 and-right true b e = e
 and-right false b e = absurd (clash e refl)
+
+-- two tests of which neither holds
+pub or-left : (a b : Bool) → a || b ≡ false → a ≡ false
+or-left true b e = e
+or-left false b e = refl
+
+pub or-right : (a b : Bool) → a || b ≡ false → b ≡ false
+or-right true b e = absurd (clash refl e)
+or-right false b e = e
 
 -- a number is below n, or not
 bound-at : {A : Type 0} (n i : ℕ) → (i < n → A) → (n ≤ i → A) → Dec (i < n) → A

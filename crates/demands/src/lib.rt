@@ -127,9 +127,9 @@ pub fn map_unmap(
 ) -> Answer
     ensures { λ r. ⌜ (r .number ≡ allDone → length (now (back .entry)) ≡ length (now (groups .entry)) → now (back .exit) ≡ now (groups .entry)) ⌝ }
 {
-    let mapped = gmp::map(c, f, n, groups, window);
+    let mapped = windows::map(c, f, n, groups, window);
     if mapped.number != 0 {
         return mapped;
     }
-    gmp::unmap(c, f, n, window, back)
+    windows::unmap(c, f, n, window, back)
 }

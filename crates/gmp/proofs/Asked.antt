@@ -9,21 +9,13 @@ use Rattle.answer.specs.Numbers.{allDone, outsideSet}
 use Rattle.answer.specs.Rows.{done, refused, answerOf}
 use Rattle.answer.specs.declared.Answer.{Answer}
 use Rattle.answer.proofs.Table.{row-whole}
-use Rattle.bits.proofs.Common.{clash}
+use Rattle.bits.proofs.Common.{or-left, or-right}
 use Rattle.gmp.specs.Places.{places, isData, Place}
 use Rattle.gmp.specs.Runs.{lastOfRun, runsFrom, EndsRun}
 use Rattle.gmp.specs.Answers.{outsidePlace, Told, told, runOf, runsOf}
 use Rattle.gmp.proofs.Stretches.{last-ends}
 use Rattle.gmp.specs.declared.told.Kind.the-variants.{Stuff, Data}
 use Rattle.gmp.specs.declared.told.Run.{Run}
-
-pub or-left : (a b : Bool) → a || b ≡ false → a ≡ false
-or-left true b e = e
-or-left false b e = refl
-
-pub or-right : (a b : Bool) → a || b ≡ false → b ≡ false
-or-right true b e = absurd (clash refl e)
-or-right false b e = e
 
 -- not outside: a count and a place
 pub inside : (c j : ℕ) {o : Bool} → o ≡ outsidePlace c j → o ≡ false → Place c j

@@ -4,7 +4,7 @@ use mathlib.Core.Bool.{Bool, true, false, cond}
 use mathlib.Core.Path.{_≡_, refl, ap}
 use native.Mathlib.Nat.{zero-mul}
 use native.Mathlib.Omega.{arith}
-use borrow.Author.Tests.{ltb-true, ltb-false}
+use borrow.Author.Tests.{lt-ltb, le-ltb, ltb-true, ltb-false}
 use lib.Dec.{ltb}
 use Rattle.bits.specs.Loops.{count}
 use Rattle.bits.proofs.Counting.{count-ext, count-add, count-le}
@@ -48,6 +48,16 @@ data-le c f n = count-le (λ k. isData c (f + k)) n
 pub data-more : (c f n : ℕ) → dataFrom c f (suc n) ≡ cond (isData c (f + n)) (suc (dataFrom c f n)) (dataFrom c f n)
 unfolding dataFrom count
 data-more c f n = refl
+
+-- a place is data where the count grows
+grows : (b : Bool) (n : ℕ) → ltb n (cond b (suc n) n) ≡ b
+grows true n = lt-ltb n (suc n) (omega arith)
+grows false n = le-ltb n n (omega arith)
+
+pub data-grows : (c f n : ℕ) → ltb (dataFrom c f n) (dataFrom c f (n + 1)) ≡ isData c (f + n)
+data-grows c f n =
+    let e : n + 1 ≡ suc n = omega arith in
+    rw (e, data-more c f n) (grows (isData c (f + n)) (dataFrom c f n))
 
 -- the more places, the more data places
 pub data-mono : (c f m n : ℕ) → m ≤ n → dataFrom c f m ≤ dataFrom c f n

@@ -4,12 +4,5 @@ pub mod Stretches
 pub mod Ends
 pub mod Asked
 pub mod Floor
-pub mod Counts
-pub mod Pairs
-pub mod Judging
-pub mod Spares
-pub mod Filling
-pub mod Ranks
-pub mod RoundTrip
 pub mod Exactly
 pub mod Unique

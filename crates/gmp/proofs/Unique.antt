@@ -1,10 +1,8 @@
--- Each public contract has one answer: two runs that meet it at one entry return the same and leave the same bytes in the lent buffer. `Post` is the
+-- Each public contract has one answer: two runs that meet it at one entry return the same. `Post` is the
 -- contract's own `ensures`, so a weaker contract would not pass here. Assumes nothing.
 use Prim.Native.Nat.{ℕ}
 use mathlib.Core.Path.{_≡_, refl, ap}
 use native.Mathlib.Omega.{arith}
-use denote.Ref.{now}
-use Rattle.answer.proofs.Meets.{only-outcome}
 use Rattle.bits.proofs.Common.{only}
 use Rattle.gmp.specs.Places.{kindNumber}
 use Rattle.gmp.specs.Answers.{Told, told}
@@ -13,8 +11,6 @@ use Rattle.gmp.specs.declared.told.Kind.the-variants.{Stuff, Data}
 use Rattle.gmp.specs.declared.told.Run.{Run}
 use Rattle.gmp.proofs.run.Reads as run
 use Rattle.gmp.proofs.runs.Reads as runs
-use Rattle.gmp.proofs.map.Reads as map
-use Rattle.gmp.proofs.unmap.Reads as unmap
 
 -- the document's number tells the kind
 same-kind : (a b : Kind) → kindNumber a ≡ kindNumber b → a ≡ b
@@ -37,11 +33,3 @@ only-run κs a x y s t p q = told-once x y (only p q)
 
 pub only-runs : (κs : _) (a : _) (x y : _) (s t : _) → runs.Post κs a x s → runs.Post κs a y t → x ≡ y
 only-runs κs a x y s t p q = only p q
-
--- s and t are the two states at exit; their last part is what is left in `window`, or in `groups`
-pub only-map : (κs : _) (a : _) (x y : _) (s t : _) → map.Post κs a x s → map.Post κs a y t → (x ≡ y) × (now (s .1 .1 .1 .1 .0) ≡ now (t .1 .1 .1 .1 .0))
-only-map κs a x y s t p q = only-outcome p q
-
-pub only-unmap : (κs : _) (a : _) (x y : _) (s t : _) → unmap.Post κs a x s → unmap.Post κs a y t
-    → (x ≡ y) × (now (s .1 .1 .1 .1 .0) ≡ now (t .1 .1 .1 .1 .0))
-only-unmap κs a x y s t p q = only-outcome p q

@@ -1,17 +1,13 @@
 -- What the public functions answer, for any input: document 01, "GMP places" and "Numbers handed back". Assumes nothing: these are definitions.
 use Prim.Native.Nat.{ℕ}
-use mathlib.Core.Bool.{Bool, cond, not, _||_}
+use mathlib.Core.Bool.{Bool, cond, _||_}
 use mathlib.Core.List.{List, [], _∷_}
-use lib.Dec.{ltb, eqb}
-use lib.ListN.{length}
-use Rattle.bits.specs.Bits.{pack}
-use Rattle.answer.specs.Numbers.{allDone, outsideSet, wrongLength, spareBit}
-use Rattle.answer.specs.Outcomes.{Outcome, written}
-use Rattle.answer.specs.Rows.{Row, answerOf, whole, buffers}
+use lib.Dec.{ltb}
+use Rattle.answer.specs.Numbers.{allDone, outsideSet}
+use Rattle.answer.specs.Rows.{Row, answerOf, whole}
 use Rattle.answer.specs.declared.Answer.{Answer}
-use Rattle.gmp.specs.Places.{places, kindNumber, kindAt, dataFrom}
+use Rattle.gmp.specs.Places.{places, kindNumber, kindAt}
 use Rattle.gmp.specs.Runs.{lastOfRun, runsFrom}
-use Rattle.gmp.specs.Windows.{groupBytes, windowBytes, outsideWindow, windowBit, groupsBit, spareSet}
 use Rattle.gmp.specs.declared.told.Kind.the-variants.{Stuff}
 use Rattle.gmp.specs.declared.told.Run.{Run}
 
@@ -40,43 +36,3 @@ runsRows c j = whole outsideSet (outsidePlace c j) ∷ []
 
 unfoldable pub runsOf : ℕ → ℕ → Answer
 runsOf c j = answerOf (runsRows c j) (runsFrom c j)
-
--- ---- windows
-
--- a buffer's length is not the stated one
-abbrev pub wrong : ℕ → ℕ → Bool
-wrong l stated = not (eqb l stated)
-
--- the table of mapping the groups g into a window of l bytes: the buffers are the groups and the window
-abbrev pub mapRows : ℕ → ℕ → ℕ → List ℕ → ℕ → List Row
-mapRows c f n g l =
-    whole outsideSet (outsideWindow c f n)
-    ∷ buffers wrongLength (wrong (length g) (groupBytes (dataFrom c f n)) ∷ wrong l (windowBytes n) ∷ [])
-    ∷ buffers spareBit (spareSet (dataFrom c f n) g ∷ [])
-    ∷ []
-
--- the count is d
-unfoldable pub mapAnswer : ℕ → ℕ → ℕ → List ℕ → ℕ → Answer
-mapAnswer c f n g l = answerOf (mapRows c f n g l) (dataFrom c f n)
-
--- the table of unmapping a window of l bytes into groups of k bytes: the buffers are the window and the groups
-abbrev pub unmapRows : ℕ → ℕ → ℕ → ℕ → ℕ → List Row
-unmapRows c f n l k =
-    whole outsideSet (outsideWindow c f n)
-    ∷ buffers wrongLength (wrong l (windowBytes n) ∷ wrong k (groupBytes (dataFrom c f n)) ∷ [])
-    ∷ []
-
--- the count is d
-unfoldable pub unmapAnswer : ℕ → ℕ → ℕ → ℕ → ℕ → Answer
-unmapAnswer c f n l k = answerOf (unmapRows c f n l k) (dataFrom c f n)
-
--- the contract of `map`, where w is the window before and `out` the window after
-abbrev pub Mapped : ℕ → ℕ → ℕ → List ℕ → List ℕ → Answer → List ℕ → Type 0
-Mapped c f n g w r out =
-    Outcome (mapAnswer c f n g (length w)) (written (mapAnswer c f n g (length w)) (pack (windowBytes n) (windowBit c f g)) w) r out
-
--- the contract of `unmap`, where g holds the groups' bytes before and `out` those after
-abbrev pub Unmapped : ℕ → ℕ → ℕ → List ℕ → List ℕ → Answer → List ℕ → Type 0
-Unmapped c f n w g r out =
-    Outcome (unmapAnswer c f n (length w) (length g))
-    (written (unmapAnswer c f n (length w) (length g)) (pack (groupBytes (dataFrom c f n)) (groupsBit c f n w)) g) r out

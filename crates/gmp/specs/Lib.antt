@@ -1,5 +1,4 @@
 -- What the contracts of `gmp` are stated in: document 01, "GMP places".
 pub mod Places
 pub mod Runs
-pub mod Windows
 pub mod Answers

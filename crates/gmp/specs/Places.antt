@@ -10,14 +10,6 @@ use Rattle.gmp.specs.declared.told.Kind.the-variants.{Stuff, Data}
 abbrev pub places : ℕ
 places = 10220
 
--- a place has four blocks of 257 bits
-abbrev pub groupBits : ℕ
-groupBits = 1028
-
--- two places, or two groups, are so many bytes
-abbrev pub pairBytes : ℕ
-pairBytes = 257
-
 -- "For a count C in 0..10,220, place j in 1..10,220 is data if (j·C) mod P < C, else stuff"
 unfoldable pub isData : ℕ → ℕ → Bool
 isData c j = ltb (j * c % places) c

@@ -156,8 +156,8 @@ fn sums(mapped: &[u8], back: &[u8], given: &[u8]) {
 // A window mapped and unmapped: both answers, and sums over the window, over the groups that came back and over those given.
 fn there_and_back(c: u64, f: u64, n: u64, given: &mut [u8], mapped: &mut [u8], back: &mut [u8]) {
     fill_sample(given);
-    print_answer(b"", gmp::map(c, f, n, given, mapped));
-    print_answer(b" unmap", gmp::unmap(c, f, n, mapped, back));
+    print_answer(b"", windows::map(c, f, n, given, mapped));
+    print_answer(b" unmap", windows::unmap(c, f, n, mapped, back));
     sums(mapped, back, given);
 }
 
@@ -193,7 +193,7 @@ fn map_group(name: &[u8], last: u8, bytes: usize) -> [u8; 257] {
     given[128] = last;
     let mut mapped = [0u8; 257];
     let k = bytes % 258;
-    print_answer(name, gmp::map(10217, 1, 2, &given, &mut mapped[0..k]));
+    print_answer(name, windows::map(10217, 1, 2, &given, &mut mapped[0..k]));
     mapped
 }
 
@@ -210,7 +210,7 @@ fn stained(mapped: &[u8]) {
     let mut back = [0u8; 129];
     print_answer(
         b"stuff not zero",
-        gmp::unmap(10217, 1, 2, mapped, &mut back),
+        windows::unmap(10217, 1, 2, mapped, &mut back),
     );
     let mut given = [255u8; 129];
     given[128] = 240;

@@ -5,7 +5,7 @@ use native.Mathlib.Nat.{mul-le-mul}
 use native.Mathlib.Omega.{arith}
 use borrow.Author.Tests.{le-ltb}
 use Rattle.gmp.specs.Places.{places, dataFrom}
-use Rattle.gmp.specs.Windows.{groupBytes}
+use Rattle.windows.specs.Windows.{groupBytes}
 use Rattle.gmp.proofs.Floor.{data-split, data-le}
 use Rattle.sizes.specs.Lengths.{Bytes, groupsLength}
 

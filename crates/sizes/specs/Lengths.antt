@@ -4,7 +4,7 @@ use mathlib.Core.Bool.{Bool, cond, _||_}
 use mathlib.Core.Path.{_≡_}
 use lib.Dec.{ltb}
 use Rattle.gmp.specs.Places.{places, dataFrom}
-use Rattle.gmp.specs.Windows.{groupBytes}
+use Rattle.windows.specs.Windows.{groupBytes}
 
 -- r is the length that is stated, and no more than the greatest of its kind
 pub record Bytes (greatest stated r : ℕ) : Type 0 where

@@ -3,7 +3,7 @@ ghost use mathlib.Core.Path.{_≡_};
 ghost use lib.ListN.{length, replicate};
 ghost use Rattle.line.specs.Sizes.{infoLength, parityLength, captureLength};
 ghost use Rattle.gmp.specs.Places.{places};
-ghost use Rattle.gmp.specs.Windows.{groupBytes, windowBytes};
+ghost use Rattle.windows.specs.Windows.{groupBytes, windowBytes};
 ghost use Rattle.sizes.specs.Lengths.{Bytes, upTo, groupsLength};
 
 // A capture of eight super frames has 1,412,608 bytes, and no other buffer is longer. A space has one byte more, so that what is too long is seen.

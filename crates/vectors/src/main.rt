@@ -2,10 +2,10 @@
 // windows mapped and unmapped.
 mod captures;
 mod published;
-mod windows;
+mod mapped;
 
 fn main() {
     published::vectors();
     captures::vectors();
-    windows::vectors();
+    mapped::vectors();
 }

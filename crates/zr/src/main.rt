@@ -1,6 +1,6 @@
 // The coder for people at a shell: `zr help` says what it takes.
 mod captures;
-mod windows;
+mod mapping;
 
 use shell::said;
 
@@ -49,8 +49,8 @@ fn main() {
         Command::Code => captures::code(),
         Command::Read => captures::read(),
         Command::Edit => captures::edit(),
-        Command::Convert(unmapping) => windows::convert(unmapping),
-        Command::Runs => windows::runs(),
+        Command::Convert(unmapping) => mapping::convert(unmapping),
+        Command::Runs => mapping::runs(),
         Command::Help => said::help(),
         Command::Unknown => said::unknown(),
     }

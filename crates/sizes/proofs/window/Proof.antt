@@ -2,7 +2,7 @@
 use native.Mathlib.Omega.{arith}
 use borrow.Author.Needs.{needs}
 use Rattle.gmp.specs.Places.{places}
-use Rattle.gmp.specs.Windows.{windowBytes}
+use Rattle.windows.specs.Windows.{windowBytes}
 use Rattle.sizes.proofs.Stated.{beyond, within}
 use Rattle.sizes.proofs.window.Statement.{statement}
 use Rattle.sizes.proofs.window.Tie as tie

@@ -1,0 +1,89 @@
+// Windows from many seeds, mapped and unmapped. The generator gives C, f, n and the groups.
+use made::Generator;
+
+// Where there are groups, their last four bits become zero: the spare ones if d is odd.
+fn clear_last(groups: &mut [u8]) {
+    let n = groups.len();
+    if 0 < n {
+        groups[n - 1] = groups[n - 1] & 240;
+    }
+}
+
+fn say_numbers(seed: u64, c: u64, f: u64, n: u64) {
+    said::number(b"seed ", seed);
+    said::number(b" C ", c);
+    said::number(b" f ", f);
+    said::number(b" n ", n);
+}
+
+fn map(c: u64, f: u64, n: u64, groups: &[u8], window: &mut [u8]) {
+    said::digest(b" groups ", groups);
+    said::outcome(b" map: ", windows::map(c, f, n, groups, window));
+    said::digest(b" window ", window);
+}
+
+fn unmap(c: u64, f: u64, n: u64, window: &[u8], groups: &mut [u8]) {
+    said::outcome(b" unmap: ", windows::unmap(c, f, n, window, groups));
+    said::digest(b" groups ", groups);
+    said::text(b"\n");
+}
+
+fn window(
+    c: u64,
+    f: u64,
+    n: u64,
+    g: Generator,
+    groups: &mut [u8],
+    window: &mut [u8],
+    back: &mut [u8],
+) {
+    made::fill(g, groups);
+    clear_last(groups);
+    map(c, f, n, groups, window);
+    unmap(c, f, n, window, back);
+}
+
+// The data places among f .. f + n - 1: the first j places hold floor(j C / P) of them.
+fn data_places(c: u64, f: u64, n: u64) -> u64 {
+    let upto = (f % 20000 + n % 20000) * (c % 20000) / 10220;
+    let before = f % 20000 * (c % 20000) / 10220;
+    if upto < before {
+        return 0;
+    }
+    upto - before
+}
+
+// What stands before f is f - 1 places, and at most 80 places are mapped.
+fn sized(c: u64, f: u64, n: u64, g: Generator) {
+    let d = data_places(c, (f % 10221 + 10219) % 10220, n) % 81;
+    let size = ((257 * d + 1) / 2) as usize;
+    let mut groups = [0u8; 10281];
+    let mut space = [90u8; 10281];
+    let mut back = [60u8; 10281];
+    window(
+        c,
+        f,
+        n,
+        g,
+        &mut groups[0..size],
+        &mut space[0..(257 * (n % 81) / 2) as usize],
+        &mut back[0..size],
+    );
+}
+
+fn windows(seed: u64) {
+    let g1 = made::step(made::start(seed));
+    let g2 = made::step(g1);
+    let g3 = made::step(g2);
+    let c = made::below(g1, 10221);
+    let f = 2 * (made::below(g2, 5071) % 5071) + 1;
+    let n = 2 * (made::below(g3, 40) % 40) + 2;
+    say_numbers(seed, c, f, n);
+    sized(c, f, n, g3);
+}
+
+pub fn vectors() {
+    for seed in 3001..3041u64 {
+        windows(seed);
+    }
+}

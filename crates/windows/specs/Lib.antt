@@ -1,0 +1,3 @@
+-- What the contracts of `windows` are stated in: document 01, "GMP places".
+pub mod Windows
+pub mod Answers
