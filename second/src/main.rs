@@ -16,7 +16,7 @@ mod texts;
 use std::io::{Read, Write};
 
 const USAGE: &str = "usage: second NAME\n\
-    NAME is one of: gmp_runs [LINE], table7, gmp_lines, hamming_words, coded, readings, edits, windows,\n\
+    NAME is one of: gmp_runs [LINE], table7, gmp_lines, hamming_words, coded, readings, edits, window_cases,\n\
     places, parts, edges, capture_edges, vectors, zr, selftest. gmp_runs without LINE reads standard input.\n";
 
 fn main() {
@@ -44,7 +44,7 @@ fn main() {
         "coded" => texts::coded(),
         "readings" => texts::readings(),
         "edits" => texts::edits(),
-        "windows" => texts::windows(),
+        "window_cases" => texts::window_cases(),
         "places" => texts::places(),
         "parts" => texts::parts(),
         "zr" => texts::zr(),

@@ -220,7 +220,7 @@ fn run_requests() {
     }
 }
 
-/// What the cases of the `windows` text are meant to show.
+/// What the cases of the `window_cases` text are meant to show.
 fn window_cases() {
     let mut map_numbers = Vec::new();
     let mut unmap_numbers = Vec::new();

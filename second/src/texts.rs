@@ -150,37 +150,6 @@ fn count_of_line(input: &[u8]) -> Answer {
     }
 }
 
-/// Bytes of no pattern that a slip would keep; the last one ends with four zero bits.
-fn sample(length: usize) -> Vec<u8> {
-    let mut bytes = Vec::new();
-    for k in 0..length {
-        bytes.push((k % 251 * 7 % 251) as u8);
-    }
-    if length > 0 {
-        bytes[length - 1] = ((length - 1) % 16 * 16) as u8;
-    }
-    bytes
-}
-
-fn sum(bytes: &[u8]) -> u64 {
-    let mut sum = 0;
-    for byte in bytes {
-        sum = (sum * 31 + u64::from(*byte)) % 1_000_003;
-    }
-    sum
-}
-
-/// A window mapped and unmapped, with sums of the window, of the groups that came back and of those given.
-fn window_lines(name: &str, c: u64, f: u64, n: u64, groups: usize, window: usize) -> String {
-    let given = sample(groups);
-    let mut mapped = vec![9u8; window];
-    let mut back = vec![7u8; groups];
-    let name = format!("window {}", name);
-    let mut text = brief(&name, gmp::map(c, f, n, &given, &mut mapped));
-    text += &brief(" unmap", gmp::unmap(c, f, n, &mapped, &mut back));
-    text + &format!(" sums {} {} {}\n", sum(&mapped), sum(&back), sum(&given))
-}
-
 pub fn gmp_lines() -> String {
     let mut text = String::new();
     let lines: [(&str, &[u8]); 12] = [
@@ -236,45 +205,7 @@ pub fn gmp_lines() -> String {
         text += &format!("run {} {} {} {}", name, answer.number, kind, last);
         text += &brief(" runs", gmp::count_runs(c, j));
     }
-
-    let windows = [
-        ("10220 10219 2", 10_220, 10_219, 2, 257, 257),
-        ("0 1 2", 0, 1, 2, 0, 257),
-        ("10217 1 2", 10_217, 1, 2, 129, 257),
-        ("10217 3407 4", 10_217, 3_407, 4, 386, 514),
-        ("5110 1 8", 5_110, 1, 8, 514, 1_028),
-        ("10216 2555 2", 10_216, 2_555, 2, 129, 257),
-        ("10221 1 2", 10_221, 1, 2, 257, 257),
-        ("10220 10219 4", 10_220, 10_219, 4, 514, 514),
-        ("10220 0 2", 10_220, 0, 2, 257, 257),
-        ("10220 2 2", 10_220, 2, 2, 257, 257),
-        ("10220 1 3", 10_220, 1, 3, 386, 386),
-        ("10220 1 0", 10_220, 1, 0, 0, 0),
-        ("2^64-1 1 2", most, 1, 2, 257, 257),
-        ("10220 2^64-1 2", 10_220, most, 2, 257, 257),
-        ("10220 3 2^64-2", 10_220, 3, most - 1, 257, 257),
-        ("10220 1 2, groups short", 10_220, 1, 2, 256, 257),
-        ("10220 1 2, window long", 10_220, 1, 2, 257, 258),
-        ("10221 1 2, both wrong", 10_221, 1, 2, 1, 1),
-    ];
-    for (name, c, f, n, groups, window) in windows {
-        text += &window_lines(name, c, f, n, groups, window);
-    }
-
-    // Spare bits that are set, and stuff that is not zero.
-    let mut given = vec![255u8; 129];
-    let mut mapped = vec![0u8; 257];
-    text += &brief("spare bits", gmp::map(10_217, 1, 2, &given, &mut mapped));
-    text += &brief(
-        "spare bits, window short",
-        gmp::map(10_217, 1, 2, &given, &mut mapped[0..256]),
-    );
-    given[128] = 240;
-    text += &brief("no spare bits", gmp::map(10_217, 1, 2, &given, &mut mapped));
-    mapped[0] = 255;
-    let mut back = vec![0u8; 129];
-    text += &brief("stuff not zero", gmp::unmap(10_217, 1, 2, &mapped, &mut back));
-    text + &format!(" sums {} {}\n", sum(&given), sum(&back))
+    text
 }
 
 // ---------------------------------------------------------------- coded
@@ -766,7 +697,7 @@ pub fn edits() -> String {
     text
 }
 
-// ---------------------------------------------------------------- windows
+// ---------------------------------------------------------------- window_cases
 
 /// C, f, n, length of the groups, length of the window, and the low four bits of the groups' last byte.
 pub const WINDOWS: [(u64, u64, u64, usize, usize, u8); 54] = [
@@ -844,7 +775,7 @@ pub fn window_groups(case: u64, length: usize, low: u8) -> Vec<u8> {
 /// Mapping writes into a window standing full of bytes from seed 600 + case.
 /// Unmapping reads a window of bytes from seed 700 + case, in which stuff is not zero, and writes into
 /// groups standing full of bytes from seed 800 + case.
-pub fn windows() -> String {
+pub fn window_cases() -> String {
     let mut text = String::new();
     let mut case = 0;
     for (c, f, n, groups_length, window_length, low) in WINDOWS {

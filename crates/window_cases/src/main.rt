@@ -1,0 +1,92 @@
+// Windows granted and refused, with the bytes left in both buffers. Expected output: written from the documents by a second program.
+
+mod cases;
+
+use cases::CASES;
+
+// The groups of places that are all data, and a window of all places.
+type Space = [u8; 1313270];
+
+fn space() -> Space {
+    [0; 1313270]
+}
+
+// Bytes in which nothing is regular, so that what is written shows, and what is not.
+fn set(seed: u64, out: &mut [u8]) {
+    made::fill(made::start(seed), out);
+}
+
+// The low four bits of the last byte, which are spare if there is an odd number of groups.
+fn set_low(low: u8, groups: &mut [u8]) {
+    let k = groups.len();
+    if 0 < k {
+        groups[k - 1] = groups[k - 1] & 240 | low;
+    }
+}
+
+fn map(case: u64, c: u64, f: u64, n: u64, low: u8, groups: &mut [u8], window: &mut [u8]) {
+    set(500 + case % 100, groups);
+    set_low(low, groups);
+    set(600 + case % 100, window);
+    said::outcome(b"map: ", windows::map(c, f, n, groups, window));
+    said::digest(b" window ", window);
+    said::text(b"\n");
+}
+
+// The window has stuff that is not zero.
+fn unmap(case: u64, c: u64, f: u64, n: u64, groups: &mut [u8], window: &mut [u8]) {
+    set(700 + case % 100, window);
+    set(800 + case % 100, groups);
+    said::outcome(b"unmap: ", windows::unmap(c, f, n, window, groups));
+    said::digest(b" groups ", groups);
+    said::text(b"\n");
+}
+
+fn name(case: u64, c: u64, f: u64, n: u64, groups: u64, window: u64, low: u64) {
+    said::number(b"case ", case);
+    said::number(b": C ", c);
+    said::number(b" f ", f);
+    said::number(b" n ", n);
+    said::number(b" groups ", groups);
+    said::number(b" window ", window);
+    said::number(b" low ", low);
+    said::text(b"\n");
+}
+
+fn map_case(case: u64, c: u64, f: u64, n: u64, low: u8, groups: u64, window: u64) {
+    let i = (groups % 1313271) as usize;
+    let k = (window % 1313271) as usize;
+    let mut a = space();
+    let mut b = space();
+    map(case, c, f, n, low, &mut a[0..i], &mut b[0..k]);
+}
+
+fn unmap_case(case: u64, c: u64, f: u64, n: u64, groups: u64, window: u64) {
+    let i = (groups % 1313271) as usize;
+    let k = (window % 1313271) as usize;
+    let mut a = space();
+    let mut b = space();
+    unmap(case, c, f, n, &mut a[0..i], &mut b[0..k]);
+}
+
+fn run(case: u64, c: u64, f: u64, n: u64, groups: u64, window: u64, low: u64) {
+    name(case, c, f, n, groups, window, low);
+    map_case(case, c, f, n, (low % 16) as u8, groups, window);
+    unmap_case(case, c, f, n, groups, window);
+}
+
+fn main() {
+    let t = CASES;
+    for k in 0..54usize {
+        let i = 6 * k;
+        run(
+            k as u64 + 1,
+            t[i],
+            t[i + 1],
+            t[i + 2],
+            t[i + 3],
+            t[i + 4],
+            t[i + 5],
+        );
+    }
+}
