@@ -6,7 +6,8 @@ use mathlib.Core.Path.{_≡_, refl, sym, ap, _∙_}
 use native.Mathlib.Decide.{decLt}
 use native.Mathlib.Omega.{arith}
 use lib.Bits.{bitXor, xor-zero-l}
-use lib.Dec.{T, eqb, eqb→eq}
+use borrow.Author.Tests.{ltb-true, ltb-false}
+use lib.Dec.{T, ltb, eqb, eqb→eq}
 use Rattle.bits.proofs.Tables.{below, each}
 use Rattle.bits.proofs.Xor.{xor-cancel}
 
@@ -35,6 +36,16 @@ or-left false b e = refl
 pub or-right : (a b : Bool) → a || b ≡ false → b ≡ false
 or-right true b e = absurd (clash refl e)
 or-right false b e = e
+
+-- two comparisons that come out the same
+pub same-test : (a b x y : ℕ) → (a < b → x < y) → (x < y → a < b) → ltb a b ≡ ltb x y
+same-test a b x y p q = by (ltb a b) (ltb x y) refl refl
+  where
+    by : (u v : Bool) → ltb a b ≡ u → ltb x y ≡ v → u ≡ v
+    by true true e h = refl
+    by false false e h = refl
+    by true false e h = absurd (omega (arith, p (ltb-true a b e), ltb-false x y h))
+    by false true e h = absurd (omega (arith, q (ltb-true x y h), ltb-false a b e))
 
 -- a number is below n, or not
 bound-at : {A : Type 0} (n i : ℕ) → (i < n → A) → (n ≤ i → A) → Dec (i < n) → A

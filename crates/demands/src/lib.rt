@@ -127,9 +127,9 @@ pub fn map_unmap(
 ) -> Answer
     ensures { λ r. ⌜ (r .number ≡ allDone → length (now (back .entry)) ≡ length (now (groups .entry)) → now (back .exit) ≡ now (groups .entry)) ⌝ }
 {
-    let mapped = windows::map(c, f, n, groups, window);
+    let mapped = mapping::map(c, f, n, groups, window);
     if mapped.number != 0 {
         return mapped;
     }
-    windows::unmap(c, f, n, window, back)
+    mapping::unmap(c, f, n, window, back)
 }

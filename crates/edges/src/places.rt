@@ -24,7 +24,7 @@ fn runs(c: u64, j: u64) {
 
 fn map(c: u64, f: u64, n: u64, groups: &[u8], window: &mut [u8]) {
     let before = made::digest(window);
-    let r = windows::map(c, f, n, groups, window);
+    let r = mapping::map(c, f, n, groups, window);
     name(c, f, n);
     say(
         b" map: ",
@@ -37,7 +37,7 @@ fn map(c: u64, f: u64, n: u64, groups: &[u8], window: &mut [u8]) {
 
 fn unmap(c: u64, f: u64, n: u64, window: &[u8], groups: &mut [u8]) {
     let before = made::digest(groups);
-    let r = windows::unmap(c, f, n, window, groups);
+    let r = mapping::unmap(c, f, n, window, groups);
     name(c, f, n);
     say(
         b" unmap: ",

@@ -4,5 +4,6 @@ pub mod Stretches
 pub mod Ends
 pub mod Asked
 pub mod Floor
+pub mod Counts
 pub mod Exactly
 pub mod Unique

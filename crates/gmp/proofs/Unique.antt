@@ -11,6 +11,7 @@ use Rattle.gmp.specs.declared.told.Kind.the-variants.{Stuff, Data}
 use Rattle.gmp.specs.declared.told.Run.{Run}
 use Rattle.gmp.proofs.run.Reads as run
 use Rattle.gmp.proofs.runs.Reads as runs
+use Rattle.gmp.proofs.data_in.Reads as data-in
 
 -- the document's number tells the kind
 same-kind : (a b : Kind) → kindNumber a ≡ kindNumber b → a ≡ b
@@ -33,3 +34,6 @@ only-run κs a x y s t p q = told-once x y (only p q)
 
 pub only-runs : (κs : _) (a : _) (x y : _) (s t : _) → runs.Post κs a x s → runs.Post κs a y t → x ≡ y
 only-runs κs a x y s t p q = only p q
+
+pub only-data-in : (κs : _) (a : _) (x y : _) (s t : _) → data-in.Post κs a x s → data-in.Post κs a y t → x ≡ y
+only-data-in κs a x y s t p q = only (p .is) (q .is)

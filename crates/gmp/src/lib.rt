@@ -3,7 +3,7 @@ ghost use mathlib.Core.Path.{_≡_};
 ghost use mathlib.Core.Bool.{true, false};
 ghost use Rattle.answer.specs.Numbers.{outsideSet};
 ghost use Rattle.answer.specs.Rows.{refused};
-ghost use Rattle.gmp.specs.Places.{isData, Place};
+ghost use Rattle.gmp.specs.Places.{isData, Place, outsideStretch, DataIn};
 ghost use Rattle.gmp.specs.Runs.{lastOfRun, runsFrom};
 ghost use Rattle.gmp.specs.Answers.{outsidePlace, told, runOf, runsOf};
 
@@ -52,6 +52,16 @@ pub fn runs(c: u64, j: u64) -> Answer
         return answer::granted(data_runs(c, j));
     }
     answer::granted(stuff_runs(c, j))
+}
+
+// How many of the n places from f on are data. Where c is no count, or they are not all places, it is 0.
+pub fn data_in(c: u64, f: u64, n: u64) -> u64
+    ensures { λ r. ⌜ DataIn c f n r ⌝ }
+{
+    if outside_stretch(c, f, n) {
+        return 0;
+    }
+    (f - 1 + n) * c / PLACES - (f - 1) * c / PLACES
 }
 
 // Refused: a number is outside its stated set.
@@ -130,4 +140,21 @@ fn stuff_runs(c: u64, j: u64) -> u64
         return 1;
     }
     1 + data_runs(c, last + 1)
+}
+
+// Whether c is no count or the n places from f on are not all places.
+fn outside_stretch(c: u64, f: u64, n: u64) -> bool
+    ensures { λ r. ⌜ r ≡ outsideStretch c f n ⌝ }
+{
+    if PLACES < c {
+        return true;
+    }
+    if f < 1 {
+        return true;
+    }
+    // f + n could wrap, so n is taken to the other side.
+    if PLACES < n {
+        return true;
+    }
+    PLACES - n + 1 < f
 }

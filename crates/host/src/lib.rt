@@ -5,7 +5,7 @@ ghost use mathlib.Core.Path.{_≡_};
 ghost use Rattle.answer.specs.Outcomes.{Outcome};
 ghost use Rattle.gmp.specs.Places.{kindNumber};
 ghost use Rattle.gmp.specs.Answers.{runOf, runsOf};
-ghost use Rattle.windows.specs.Answers.{Mapped, Unmapped};
+ghost use Rattle.mapping.specs.Groups.{Mapped, Unmapped};
 ghost use Rattle.coder.specs.Code.{codeAnswer, codeLeaves};
 ghost use Rattle.reader.specs.Read.{readAnswer, readLeaves};
 ghost use Rattle.editor.specs.Edit.{editAnswer, editLeaves};
@@ -47,7 +47,7 @@ pub extern "C" fn zr400_runs(c: u64, j: u64) -> Answer
 pub extern "C" fn zr400_map(c: u64, f: u64, n: u64, groups: &[u8], window: &mut [u8]) -> Answer
     ensures { λ r. ⌜ Mapped c f n (now (groups .entry)) (now (window .entry)) r (now (window .exit)) ⌝ }
 {
-    windows::map(c, f, n, groups, window)
+    mapping::map(c, f, n, groups, window)
 }
 
 // Gives the data groups of a window back.
@@ -55,7 +55,7 @@ pub extern "C" fn zr400_map(c: u64, f: u64, n: u64, groups: &[u8], window: &mut 
 pub extern "C" fn zr400_unmap(c: u64, f: u64, n: u64, window: &[u8], groups: &mut [u8]) -> Answer
     ensures { λ r. ⌜ Unmapped c f n (now (window .entry)) (now (groups .entry)) r (now (groups .exit)) ⌝ }
 {
-    windows::unmap(c, f, n, window, groups)
+    mapping::unmap(c, f, n, window, groups)
 }
 
 // Whether the information of FEC block t may be asked for. C finds the part itself at 30,583 bytes times t.

@@ -18,12 +18,12 @@ fn say_numbers(seed: u64, c: u64, f: u64, n: u64) {
 
 fn map(c: u64, f: u64, n: u64, groups: &[u8], window: &mut [u8]) {
     said::digest(b" groups ", groups);
-    said::outcome(b" map: ", windows::map(c, f, n, groups, window));
+    said::outcome(b" map: ", mapping::map(c, f, n, groups, window));
     said::digest(b" window ", window);
 }
 
 fn unmap(c: u64, f: u64, n: u64, window: &[u8], groups: &mut [u8]) {
-    said::outcome(b" unmap: ", windows::unmap(c, f, n, window, groups));
+    said::outcome(b" unmap: ", mapping::unmap(c, f, n, window, groups));
     said::digest(b" groups ", groups);
     said::text(b"\n");
 }

@@ -28,7 +28,7 @@ fn map(case: u64, c: u64, f: u64, n: u64, low: u8, groups: &mut [u8], window: &m
     set(500 + case % 100, groups);
     set_low(low, groups);
     set(600 + case % 100, window);
-    said::outcome(b"map: ", windows::map(c, f, n, groups, window));
+    said::outcome(b"map: ", mapping::map(c, f, n, groups, window));
     said::digest(b" window ", window);
     said::text(b"\n");
 }
@@ -37,7 +37,7 @@ fn map(case: u64, c: u64, f: u64, n: u64, low: u8, groups: &mut [u8], window: &m
 fn unmap(case: u64, c: u64, f: u64, n: u64, groups: &mut [u8], window: &mut [u8]) {
     set(700 + case % 100, window);
     set(800 + case % 100, groups);
-    said::outcome(b"unmap: ", windows::unmap(c, f, n, window, groups));
+    said::outcome(b"unmap: ", mapping::unmap(c, f, n, window, groups));
     said::digest(b" groups ", groups);
     said::text(b"\n");
 }

@@ -11,10 +11,11 @@ use Rattle.answer.specs.Numbers.{allDone, outsideSet, wrongLength, spareBit}
 use Rattle.answer.specs.Rows.{done, refused, answerOf, buffers, bufferPlace}
 use Rattle.answer.specs.declared.Answer.{Answer}
 use Rattle.answer.proofs.Table.{row-whole, row-buffers, inTurn, guard}
-use Rattle.gmp.specs.Places.{places, dataFrom}
-use Rattle.windows.specs.Windows.{groupBytes, windowBytes, outsideWindow, Window, Stretch, spareSet}
+use Rattle.gmp.specs.Places.{places, dataFrom, Stretch, dataIn}
+use Rattle.gmp.proofs.Counts.{data-inside}
+use Rattle.windows.specs.Windows.{groupBytes, windowBytes, outsideWindow, Window, spareSet}
 use Rattle.windows.specs.Answers.{wrong, mapAnswer, unmapAnswer}
-use Rattle.bits.proofs.Common.{or-left, or-right}
+use Rattle.bits.proofs.Common.{or-left, or-right, same-test}
 
 -- ---- the numbers
 
@@ -44,18 +45,9 @@ window-in c f n p q =
 pub stretch-of : (c f n m : ℕ) → Window c f n → m ≤ n → Stretch c f m
 stretch-of c f n m w h = record { count = w .count; from = omega (arith, w .odd); to = omega (arith, w .odd, w .two, w .to) }
 
-pub stretch-in : (c f n : ℕ) {o : Bool} → o ≡ outsideWindow c f n → o ≡ false → Stretch c f n
-stretch-in c f n p q = stretch-of c f n n (window-in c f n p q) (omega arith)
-
--- two tests that hold together
-same-test : (a b x y : ℕ) → (a < b → x < y) → (x < y → a < b) → ltb a b ≡ ltb x y
-same-test a b x y p q = by (ltb a b) (ltb x y) refl refl
-  where
-    by : (u v : Bool) → ltb a b ≡ u → ltb x y ≡ v → u ≡ v
-    by true true e h = refl
-    by false false e h = refl
-    by true false e h = absurd (omega (arith, p (ltb-true a b e), ltb-false x y h))
-    by false true e h = absurd (omega (arith, q (ltb-true x y h), ltb-false a b e))
+-- the data places of a window, as they are counted
+pub data-window : (c f n : ℕ) → Window c f n → dataIn c f n ≡ dataFrom c f n
+data-window c f n w = data-inside c f n (stretch-of c f n n w (omega arith))
 
 -- a window that ends too late, without the sum
 pub ends-late : (f n : ℕ) → 2 ≤ n → n ≤ places → ltb (places - n + 1) f ≡ ltb places (f + n - 1)
@@ -85,18 +77,21 @@ module _ (c f n : ℕ) (g : List ℕ) (l : ℕ) where
     pub map-outside : o ≡ true → a ≡ refused outsideSet 0 → a ≡ mapAnswer c f n g l
     map-outside q e = e ∙ rw (map-chain, ← p, q)
 
-    module _ (q : o ≡ false) {m : ℕ} (h : m ≡ dataFrom c f n) where
+    module _ (q : o ≡ false) {m : ℕ} (h : m ≡ dataIn c f n) where
+      is : m ≡ dataFrom c f n
+      is = h ∙ data-window c f n (window-in c f n p q)
+
       pub map-groups : (length g ≡ groupBytes m → ⊥) → {x : ℕ} → x ≡ bufferPlace 1 → a ≡ refused wrongLength x → a ≡ mapAnswer c f n g l
-      map-groups u b e = e ∙ rw (map-chain, ← p, q, ← h, ne-eqb (length g) (groupBytes m) u, b)
+      map-groups u b e = e ∙ rw (map-chain, ← p, q, ← is, ne-eqb (length g) (groupBytes m) u, b)
 
       pub map-window : length g ≡ groupBytes m → (l ≡ windowBytes n → ⊥) → {x : ℕ} → x ≡ bufferPlace 2 → a ≡ refused wrongLength x → a ≡ mapAnswer c f n g l
-      map-window u v b e = e ∙ rw (map-chain, ← p, q, ← h, eq-eqb (length g) (groupBytes m) u, ne-eqb l (windowBytes n) v, b)
+      map-window u v b e = e ∙ rw (map-chain, ← p, q, ← is, eq-eqb (length g) (groupBytes m) u, ne-eqb l (windowBytes n) v, b)
 
       pub map-spare : length g ≡ groupBytes m → l ≡ windowBytes n → {t : Bool} → t ≡ spareSet m g → t ≡ true → {x : ℕ} → x ≡ bufferPlace 1 → a ≡ refused spareBit x → a ≡ mapAnswer c f n g l
-      map-spare u v t s b e = e ∙ rw (map-chain, ← p, q, ← h, eq-eqb (length g) (groupBytes m) u, eq-eqb l (windowBytes n) v, ← t, s, b)
+      map-spare u v t s b e = e ∙ rw (map-chain, ← p, q, ← is, eq-eqb (length g) (groupBytes m) u, eq-eqb l (windowBytes n) v, ← t, s, b)
 
       pub map-done : length g ≡ groupBytes m → l ≡ windowBytes n → {t : Bool} → t ≡ spareSet m g → t ≡ false → a ≡ done m → a ≡ mapAnswer c f n g l
-      map-done u v t s e = e ∙ rw (map-chain, ← p, q, ← h, eq-eqb (length g) (groupBytes m) u, eq-eqb l (windowBytes n) v, ← t, s)
+      map-done u v t s e = e ∙ rw (map-chain, ← p, q, ← is, eq-eqb (length g) (groupBytes m) u, eq-eqb l (windowBytes n) v, ← t, s)
 
 -- ---- the table of `unmap`
 
@@ -115,18 +110,21 @@ module _ (c f n l k : ℕ) where
     pub unmap-outside : o ≡ true → a ≡ refused outsideSet 0 → a ≡ unmapAnswer c f n l k
     unmap-outside q e = e ∙ rw (unmap-chain, ← p, q)
 
-    module _ (q : o ≡ false) {m : ℕ} (h : m ≡ dataFrom c f n) where
+    module _ (q : o ≡ false) {m : ℕ} (h : m ≡ dataIn c f n) where
+      is : m ≡ dataFrom c f n
+      is = h ∙ data-window c f n (window-in c f n p q)
+
       pub unmap-window : (l ≡ windowBytes n → ⊥) → {x : ℕ} → x ≡ bufferPlace 1 → a ≡ refused wrongLength x → a ≡ unmapAnswer c f n l k
       unmap-window v b e = e ∙ rw (unmap-chain, ← p, q, ne-eqb l (windowBytes n) v, b)
 
       pub unmap-groups : l ≡ windowBytes n → (k ≡ groupBytes m → ⊥) → {x : ℕ} → x ≡ bufferPlace 2 → a ≡ refused wrongLength x → a ≡ unmapAnswer c f n l k
-      unmap-groups v u b e = e ∙ rw (unmap-chain, ← p, q, ← h, eq-eqb l (windowBytes n) v, ne-eqb k (groupBytes m) u, b)
+      unmap-groups v u b e = e ∙ rw (unmap-chain, ← p, q, ← is, eq-eqb l (windowBytes n) v, ne-eqb k (groupBytes m) u, b)
 
       pub unmap-done : l ≡ windowBytes n → k ≡ groupBytes m → a ≡ done m → a ≡ unmapAnswer c f n l k
-      unmap-done v u e = e ∙ rw (unmap-chain, ← p, q, ← h, eq-eqb l (windowBytes n) v, eq-eqb k (groupBytes m) u)
+      unmap-done v u e = e ∙ rw (unmap-chain, ← p, q, ← is, eq-eqb l (windowBytes n) v, eq-eqb k (groupBytes m) u)
 
 -- the returns of both: `search judged`
-pub ruleset judged = (window-in, stretch-in, map-outside, map-groups, map-window, map-spare, map-done, unmap-outside, unmap-window, unmap-groups, unmap-done)
+pub ruleset judged = (window-in, map-outside, map-groups, map-window, map-spare, map-done, unmap-outside, unmap-window, unmap-groups, unmap-done)
 
 -- ---- what a call that is done was asked
 

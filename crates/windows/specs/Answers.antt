@@ -1,16 +1,14 @@
--- What `map` and `unmap` answer and leave, for any input: document 01, "GMP places" and "Numbers handed back". Assumes nothing: these are definitions.
+-- What mapping and unmapping answer, for any input: document 01, "GMP places" and "Numbers handed back". Assumes nothing: these are definitions.
 use Prim.Native.Nat.{ℕ}
 use mathlib.Core.Bool.{Bool, not}
 use mathlib.Core.List.{List, [], _∷_}
 use lib.Dec.{eqb}
 use lib.ListN.{length}
-use Rattle.bits.specs.Bits.{pack}
 use Rattle.answer.specs.Numbers.{outsideSet, wrongLength, spareBit}
-use Rattle.answer.specs.Outcomes.{Outcome, written}
 use Rattle.answer.specs.Rows.{Row, answerOf, whole, buffers}
 use Rattle.answer.specs.declared.Answer.{Answer}
 use Rattle.gmp.specs.Places.{dataFrom}
-use Rattle.windows.specs.Windows.{groupBytes, windowBytes, outsideWindow, windowBit, groupsBit, spareSet}
+use Rattle.windows.specs.Windows.{groupBytes, windowBytes, outsideWindow, spareSet}
 
 -- a buffer's length is not the stated one
 abbrev pub wrong : ℕ → ℕ → Bool
@@ -38,14 +36,3 @@ unmapRows c f n l k =
 -- the count is d
 unfoldable pub unmapAnswer : ℕ → ℕ → ℕ → ℕ → ℕ → Answer
 unmapAnswer c f n l k = answerOf (unmapRows c f n l k) (dataFrom c f n)
-
--- the contract of `map`, where w is the window before and `out` the window after
-abbrev pub Mapped : ℕ → ℕ → ℕ → List ℕ → List ℕ → Answer → List ℕ → Type 0
-Mapped c f n g w r out =
-    Outcome (mapAnswer c f n g (length w)) (written (mapAnswer c f n g (length w)) (pack (windowBytes n) (windowBit c f g)) w) r out
-
--- the contract of `unmap`, where g holds the groups' bytes before and `out` those after
-abbrev pub Unmapped : ℕ → ℕ → ℕ → List ℕ → List ℕ → Answer → List ℕ → Type 0
-Unmapped c f n w g r out =
-    Outcome (unmapAnswer c f n (length w) (length g))
-    (written (unmapAnswer c f n (length w) (length g)) (pack (groupBytes (dataFrom c f n)) (groupsBit c f n w)) g) r out

@@ -1,6 +1,6 @@
 // The coder for people at a shell: `zr help` says what it takes.
 mod captures;
-mod mapping;
+mod places;
 
 use shell::said;
 
@@ -49,8 +49,8 @@ fn main() {
         Command::Code => captures::code(),
         Command::Read => captures::read(),
         Command::Edit => captures::edit(),
-        Command::Convert(unmapping) => mapping::convert(unmapping),
-        Command::Runs => mapping::runs(),
+        Command::Convert(unmapping) => places::convert(unmapping),
+        Command::Runs => places::runs(),
         Command::Help => said::help(),
         Command::Unknown => said::unknown(),
     }

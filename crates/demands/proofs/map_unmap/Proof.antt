@@ -1,13 +1,13 @@
 -- `demands::map_unmap` meets its contract: the groups come back. Assumes nothing.
 use denote.Ref.{now}
-use Rattle.windows.proofs.RoundTrip.{round-trip}
+use Rattle.mapping.proofs.RoundTrip.{round-trip}
 use borrow.Author.Needs.{needs}
 use Rattle.demands.proofs.map_unmap.Statement.{statement}
 use Rattle.demands.proofs.map_unmap.Tie as tie
 use Rattle.demands.proofs.map_unmap.Reads as reads
 use Rattle.demands.proofs.map_unmap.Lts as lts
-use Rattle.windows.proofs.map.Reads as map-reads
-use Rattle.windows.proofs.unmap.Reads as unmap-reads
+use Rattle.mapping.proofs.map.Reads as map-reads
+use Rattle.mapping.proofs.unmap.Reads as unmap-reads
 
 map-requires : tie.Need-map-requires
 map-requires c κs = search needs

@@ -1,0 +1,127 @@
+-- Unmapping what was mapped gives the groups back. Assumes nothing.
+use Prim.Native.Nat.{ℕ, zero, suc, _+_, _-_, _*_, _/_, _%_, _^_, _≤_, _<_}
+use mathlib.Core.Bool.{Bool, true, false, cond, not}
+use mathlib.Core.Path.{_≡_, refl, sym, ap, _∙_}
+use mathlib.Core.List.{List}
+use native.Mathlib.Nat.{zero-div}
+use native.Mathlib.Omega.{arith}
+use borrow.Author.Tests.{ltb-true, ltb-false, eq-eqb, eqb-true, not-false}
+use lib.Dec.{ltb, eqb}
+use lib.ListN.{length}
+use Rattle.bits.specs.Bits.{num, digit, bitAt, pack, Bits, Bytes}
+use Rattle.bits.proofs.Numbers.{digit-num}
+use Rattle.bits.proofs.Packing.{bitOf-lt, bitOf-packs, packs-bitOf, packs-ext, length-packs}
+use Rattle.answer.specs.Numbers.{allDone}
+use Rattle.answer.specs.Rows.{done}
+use Rattle.answer.specs.declared.Answer.{Answer}
+use Rattle.answer.proofs.Meets.{written-done}
+use Rattle.gmp.specs.Places.{isData, dataFrom}
+use Rattle.windows.specs.Windows.{groupBits, groupBytes, windowBytes, Window, spareSet}
+use Rattle.mapping.specs.Groups.{windowBit, groupPlace, groupsBit, Mapped, Unmapped}
+use Rattle.windows.specs.Answers.{mapAnswer, unmapAnswer}
+use Rattle.mapping.proofs.Ranks.{Stands, stands}
+use Rattle.windows.proofs.Judging.{data-window, map-taken, map-done, unmap-done}
+
+window-lt : (c f : ℕ) (g : List ℕ) → Bits (windowBit c f g)
+unfolding windowBit
+window-lt c f g i = by (isData c (f + i / groupBits))
+  where
+    by : (b : Bool) → cond b (bitAt g (groupBits * dataFrom c f (i / groupBits) + i % groupBits)) 0 < 2
+    by true = bitOf-lt 8 g (groupBits * dataFrom c f (i / groupBits) + i % groupBits)
+    by false = omega arith
+
+-- bit r of data group q, at its place in the window
+at-place : (c f n : ℕ) (g : List ℕ) (q r m : ℕ) → r < groupBits → Stands c f n q m → windowBit c f g (groupBits * m + r) ≡ bitAt g (groupBits * q + r)
+unfolding windowBit
+at-place c f n g q r m h s =
+    let d : (1028 * m + r) / 1028 ≡ m = omega arith in
+    let e : (1028 * m + r) % 1028 ≡ r = omega arith in
+    rw (d, e, s .is-data, s .rank)
+
+digit-zero : (w j : ℕ) → digit w 0 j ≡ 0
+unfolding digit
+digit-zero w j = rw (zero-div (2 ^ (w - 1 - j)))
+
+-- a spare bit that is not set is zero
+spare-zero : (d : ℕ) (g : List ℕ) (j : ℕ) → spareSet d g ≡ false → d % 2 ≡ 1 → j < 4 → bitAt g (groupBits * d + j) ≡ 0
+unfolding spareSet
+spare-zero d g j s o h =
+    let x = num 4 (bitAt g) (groupBits * d) in
+    let t : not (eqb x 0) ≡ false = rw (eq-eqb (d % 2) 1 o) at s in
+    let z : x ≡ 0 = eqb-true x 0 (not-false (eqb x 0) t) in
+    sym (digit-num 4 (bitAt g) (groupBits * d) j (bitOf-lt 8 g) h) ∙ ap (λ (y : ℕ). digit 4 y j) z ∙ digit-zero 4 j
+
+-- an even number of groups fills its bytes
+even-bytes : (k : ℕ) → 8 * groupBytes (2 * k) ≡ groupBits * (2 * k)
+even-bytes k = omega arith
+
+-- so does an even number of places
+window-bytes : (n : ℕ) → n % 2 ≡ 0 → 8 * windowBytes n ≡ groupBits * n
+window-bytes n h = let e : n ≡ 2 * (n / 2) = omega arith in ap (λ (x : ℕ). 8 * windowBytes x) e ∙ at (n / 2) ∙ ap (λ (x : ℕ). groupBits * x) (sym e)
+  where
+    at : (k : ℕ) → 8 * windowBytes (2 * k) ≡ groupBits * (2 * k)
+    at k = omega arith
+
+-- an odd number of groups leaves four bits
+odd-bytes : (d : ℕ) → d % 2 ≡ 1 → 8 * groupBytes d ≡ groupBits * d + 4
+odd-bytes d h = let e : d ≡ 2 * (d / 2) + 1 = omega arith in ap (λ (x : ℕ). 8 * groupBytes x) e ∙ at (d / 2) ∙ ap (λ (x : ℕ). groupBits * x + 4) (sym e)
+  where
+    at : (k : ℕ) → 8 * groupBytes (2 * k + 1) ≡ groupBits * (2 * k + 1) + 4
+    at k = omega arith
+
+from-quotient : (d i : ℕ) → d ≤ i / groupBits → groupBits * d ≤ i
+from-quotient d i h = omega arith
+
+-- a bit behind the last group and within the bytes: there is an odd number of groups
+odd-behind : (d i : ℕ) → groupBits * d ≤ i → i < 8 * groupBytes d → d % 2 ≡ 1
+odd-behind d i l h = by (d % 2) (omega arith) (omega arith)
+  where
+    by : (e : ℕ) → d ≡ 2 * (d / 2) + e → e < 2 → e ≡ 1
+    by zero p q =
+        let k : d ≡ 2 * (d / 2) = omega arith in
+        absurd (omega (arith, ap (λ (x : ℕ). 8 * groupBytes x) k, even-bytes (d / 2)))
+    by (suc zero) p q = refl
+    by (suc (suc e)) p q = absurd (omega arith)
+
+-- bit by bit, what was mapped is what unmapping finds
+module _ (c f n : ℕ) (g : List ℕ) (w : Window c f n) (spare : spareSet (dataFrom c f n) g ≡ false) where
+  abbrev out : List ℕ
+  out = pack (windowBytes n) (windowBit c f g)
+
+  back-bit : (i : ℕ) → i < 8 * groupBytes (dataFrom c f n) → groupsBit c f n out i ≡ bitAt g i
+  unfolding groupsBit
+  back-bit i h = by (ltb (i / groupBits) (dataFrom c f n)) refl
+    where
+      by : (b : Bool) → ltb (i / groupBits) (dataFrom c f n) ≡ b → cond b (bitAt out (groupBits * groupPlace c f n (i / groupBits) + i % groupBits)) 0 ≡ bitAt g i
+      by true e =
+          let q = i / 1028 in
+          let r = i % 1028 in
+          let s = stands c f n q (ltb-true q (dataFrom c f n) e) in
+          let m = groupPlace c f n q in
+          let l : 1028 * m + r < 8 * windowBytes n = omega (arith, s .inside, window-bytes n (w .even)) in
+          let k : 1028 * q + r ≡ i = omega arith in
+          bitOf-packs 8 (windowBytes n) (windowBit c f g) (1028 * m + r) (window-lt c f g) l ∙ at-place c f n g q r m (omega arith) s ∙ ap (bitAt g) k
+      by false e =
+          let d = dataFrom c f n in
+          let l : 1028 * d ≤ i = from-quotient d i (ltb-false (i / groupBits) d e) in
+          let o : d % 2 ≡ 1 = odd-behind d i l h in
+          let k : 1028 * d + (i - 1028 * d) ≡ i = omega arith in
+          sym (ap (bitAt g) (sym k) ∙ spare-zero d g (i - 1028 * d) spare o (omega (arith, odd-bytes d o)))
+
+  back-bytes : Bytes g → length g ≡ groupBytes (dataFrom c f n) → pack (groupBytes (dataFrom c f n)) (groupsBit c f n out) ≡ g
+  back-bytes b l =
+      packs-ext 8 (groupBytes (dataFrom c f n)) (groupsBit c f n out) (bitAt g) back-bit ∙ ap (λ (k : ℕ). pack k (bitAt g)) (sym l) ∙ packs-bitOf 8 g b
+
+-- THE ROUND TRIP: where mapping was done, unmapping its window into a buffer of the groups' length is done with the same answer, and gives the groups back
+pub round-trip : (c f n : ℕ) (g w g₀ : List ℕ) (r r′ : Answer) (out back : List ℕ) → Bytes g → Mapped c f n g w r out → r .number ≡ allDone → length g₀ ≡ length g → Unmapped c f n out g₀ r′ back
+    → (r′ ≡ r) × (back ≡ g)
+round-trip c f n g w g₀ r r′ out back b m z l u =
+    let t = map-taken c f n g (length w) (m .told) z in
+    let d = dataFrom c f n in
+    let counted = sym (data-window c f n (t .window)) in
+    let made : out ≡ pack (windowBytes n) (windowBit c f g) = m .kept ∙ written-done (mapAnswer c f n g (length w)) (pack (windowBytes n) (windowBit c f g)) w (ap (λ (x : Answer). x .number) (sym (m .told)) ∙ z) in
+    let long : length out ≡ windowBytes n = ap length made ∙ length-packs 8 (windowBytes n) (windowBit c f g) in
+    let first : done d ≡ mapAnswer c f n g (length w) = map-done c f n g (length w) refl (t .numbers) counted (t .groups-length) (t .window-length) refl (t .spare) refl in
+    let second : done d ≡ unmapAnswer c f n (length out) (length g₀) = unmap-done c f n (length out) (length g₀) refl (t .numbers) counted long (l ∙ t .groups-length) refl in
+    let given : back ≡ pack (groupBytes d) (groupsBit c f n out) = u .kept ∙ written-done (unmapAnswer c f n (length out) (length g₀)) (pack (groupBytes d) (groupsBit c f n out)) g₀ (ap (λ (x : Answer). x .number) (sym second)) in
+    (u .told ∙ sym second ∙ first ∙ sym (m .told), given ∙ ap (λ (x : List ℕ). pack (groupBytes d) (groupsBit c f n x)) made ∙ back-bytes c f n g (t .window) (t .spare) b (t .groups-length))

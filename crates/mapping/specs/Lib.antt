@@ -1,0 +1,2 @@
+-- What the contracts of `mapping` are stated in: document 01, "GMP places".
+pub mod Groups
