@@ -49,6 +49,9 @@ stretch-of c f n m w h = record { count = w .count; from = omega (arith, w .odd)
 pub data-window : (c f n : ℕ) → Window c f n → dataIn c f n ≡ dataFrom c f n
 data-window c f n w = data-inside c f n (stretch-of c f n n w (omega arith))
 
+pub counted : (c f n : ℕ) {o : Bool} {m : ℕ} → o ≡ outsideWindow c f n → o ≡ false → m ≡ dataIn c f n → m ≡ dataFrom c f n
+counted c f n p q h = h ∙ data-window c f n (window-in c f n p q)
+
 -- a window that ends too late, without the sum
 pub ends-late : (f n : ℕ) → 2 ≤ n → n ≤ places → ltb (places - n + 1) f ≡ ltb places (f + n - 1)
 ends-late f n h l = same-test (places - n + 1) f places (f + n - 1) (λ k. omega arith) (λ k. omega arith)
@@ -78,20 +81,17 @@ module _ (c f n : ℕ) (g : List ℕ) (l : ℕ) where
     map-outside q e = e ∙ rw (map-chain, ← p, q)
 
     module _ (q : o ≡ false) {m : ℕ} (h : m ≡ dataIn c f n) where
-      is : m ≡ dataFrom c f n
-      is = h ∙ data-window c f n (window-in c f n p q)
-
       pub map-groups : (length g ≡ groupBytes m → ⊥) → {x : ℕ} → x ≡ bufferPlace 1 → a ≡ refused wrongLength x → a ≡ mapAnswer c f n g l
-      map-groups u b e = e ∙ rw (map-chain, ← p, q, ← is, ne-eqb (length g) (groupBytes m) u, b)
+      map-groups u b e = e ∙ rw (map-chain, ← p, q, ← counted c f n p q h, ne-eqb (length g) (groupBytes m) u, b)
 
       pub map-window : length g ≡ groupBytes m → (l ≡ windowBytes n → ⊥) → {x : ℕ} → x ≡ bufferPlace 2 → a ≡ refused wrongLength x → a ≡ mapAnswer c f n g l
-      map-window u v b e = e ∙ rw (map-chain, ← p, q, ← is, eq-eqb (length g) (groupBytes m) u, ne-eqb l (windowBytes n) v, b)
+      map-window u v b e = e ∙ rw (map-chain, ← p, q, ← counted c f n p q h, eq-eqb (length g) (groupBytes m) u, ne-eqb l (windowBytes n) v, b)
 
       pub map-spare : length g ≡ groupBytes m → l ≡ windowBytes n → {t : Bool} → t ≡ spareSet m g → t ≡ true → {x : ℕ} → x ≡ bufferPlace 1 → a ≡ refused spareBit x → a ≡ mapAnswer c f n g l
-      map-spare u v t s b e = e ∙ rw (map-chain, ← p, q, ← is, eq-eqb (length g) (groupBytes m) u, eq-eqb l (windowBytes n) v, ← t, s, b)
+      map-spare u v t s b e = e ∙ rw (map-chain, ← p, q, ← counted c f n p q h, eq-eqb (length g) (groupBytes m) u, eq-eqb l (windowBytes n) v, ← t, s, b)
 
       pub map-done : length g ≡ groupBytes m → l ≡ windowBytes n → {t : Bool} → t ≡ spareSet m g → t ≡ false → a ≡ done m → a ≡ mapAnswer c f n g l
-      map-done u v t s e = e ∙ rw (map-chain, ← p, q, ← is, eq-eqb (length g) (groupBytes m) u, eq-eqb l (windowBytes n) v, ← t, s)
+      map-done u v t s e = e ∙ rw (map-chain, ← p, q, ← counted c f n p q h, eq-eqb (length g) (groupBytes m) u, eq-eqb l (windowBytes n) v, ← t, s)
 
 -- ---- the table of `unmap`
 
@@ -111,17 +111,14 @@ module _ (c f n l k : ℕ) where
     unmap-outside q e = e ∙ rw (unmap-chain, ← p, q)
 
     module _ (q : o ≡ false) {m : ℕ} (h : m ≡ dataIn c f n) where
-      is : m ≡ dataFrom c f n
-      is = h ∙ data-window c f n (window-in c f n p q)
-
       pub unmap-window : (l ≡ windowBytes n → ⊥) → {x : ℕ} → x ≡ bufferPlace 1 → a ≡ refused wrongLength x → a ≡ unmapAnswer c f n l k
       unmap-window v b e = e ∙ rw (unmap-chain, ← p, q, ne-eqb l (windowBytes n) v, b)
 
       pub unmap-groups : l ≡ windowBytes n → (k ≡ groupBytes m → ⊥) → {x : ℕ} → x ≡ bufferPlace 2 → a ≡ refused wrongLength x → a ≡ unmapAnswer c f n l k
-      unmap-groups v u b e = e ∙ rw (unmap-chain, ← p, q, ← is, eq-eqb l (windowBytes n) v, ne-eqb k (groupBytes m) u, b)
+      unmap-groups v u b e = e ∙ rw (unmap-chain, ← p, q, ← counted c f n p q h, eq-eqb l (windowBytes n) v, ne-eqb k (groupBytes m) u, b)
 
       pub unmap-done : l ≡ windowBytes n → k ≡ groupBytes m → a ≡ done m → a ≡ unmapAnswer c f n l k
-      unmap-done v u e = e ∙ rw (unmap-chain, ← p, q, ← is, eq-eqb l (windowBytes n) v, eq-eqb k (groupBytes m) u)
+      unmap-done v u e = e ∙ rw (unmap-chain, ← p, q, ← counted c f n p q h, eq-eqb l (windowBytes n) v, eq-eqb k (groupBytes m) u)
 
 -- the returns of both: `search judged`
 pub ruleset judged = (window-in, map-outside, map-groups, map-window, map-spare, map-done, unmap-outside, unmap-window, unmap-groups, unmap-done)

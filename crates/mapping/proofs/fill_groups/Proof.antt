@@ -6,6 +6,7 @@ use lib.ListN.{length, take, drop, length-take, length-drop}
 use Rattle.bits.specs.Bits.{byteOf}
 use Rattle.bits.proofs.Lists.{Filled, filled-none, filled-to, filled-all}
 use Rattle.mapping.specs.Groups.{groupsBit}
+use Rattle.windows.proofs.Judging.{data-window}
 use borrow.Author.Needs.{needs}
 use Rattle.mapping.proofs.Pairs.{filled-part}
 use Rattle.mapping.proofs.fill_groups.Statement.{statement}
@@ -36,10 +37,10 @@ least-requires : tie.Need-least-requires Inv-loop μ-loop
 least-requires c κs = omega arith
 
 sub-fill-two : tie.Need-sub-fill-two Inv-loop μ-loop
-sub-fill-two c = omega arith
+sub-fill-two c = omega (arith, data-window _ _ _ (c .before .before .before .before .before .before .pre .0))
 
 part-fill-two-start : tie.Need-part-fill-two-start Inv-loop μ-loop
-part-fill-two-start c = omega arith
+part-fill-two-start c = omega (arith, data-window _ _ _ (c .before .before .before .before .before .before .pre .0))
 
 part-fill-two-end : tie.Need-part-fill-two-end Inv-loop μ-loop
 part-fill-two-end c = omega arith
@@ -59,6 +60,7 @@ loop-again : tie.Need-loop-again Inv-loop μ-loop
 loop-again c =
     let t = c .before .before .before .before .before .before .loop in
     let e = c .before .before .before .before .least .result in
+    let w = data-window _ _ _ (c .before .before .before .before .before .before .before .before .before .before .pre .0) in
     let l : length (take (e - 257 * t .p) (drop (257 * t .p) (t .groups))) ≡ e - 257 * t .p = simp (length-take, length-drop) (omega arith) in (
       filled-to _ (filled-part _ e (filled-to (257 * t .p) (t .inv .0) (omega arith)) (omega arith) (omega arith) (c .before .before .fill-two .ensures)) (omega arith),
       omega arith,
@@ -68,7 +70,9 @@ same-length : tie.Need-same-length Inv-loop μ-loop
 same-length c = omega arith
 
 returns : tie.Need-returns Inv-loop μ-loop
-returns c = filled-all _ (c .before .loop .inv .0) (omega arith) (omega arith)
+returns c =
+    let w = data-window _ _ _ (c .before .before .before .before .before .pre .0) in
+    filled-all _ (c .before .loop .inv .0) (omega arith) (omega arith)
 
 pub fill-groups-spec : {M : Type 1} → statement M
 fill-groups-spec =

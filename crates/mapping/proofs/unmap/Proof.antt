@@ -21,10 +21,10 @@ same-length : tie.Need-same-length
 same-length c = search needs
 
 returns : tie.Need-returns
-returns c = search (meets-done, meets-refused)
+returns c = search meets-done
 
 returns-2 : tie.Need-returns-2
-returns-2 c = search (meets-done, meets-refused)
+returns-2 c = search meets-refused
 
 pub unmap-spec : {M : Type 1} → statement M
 unmap-spec =

@@ -15,7 +15,7 @@ returns : tie.Need-returns
 returns c = search judged
 
 data-in-requires : tie.Need-data-in-requires
-data-in-requires c κs = search judged
+data-in-requires c κs = search needs
 
 mul-if2 : tie.Need-mul-if2
 mul-if2 c = search needs
