@@ -14,21 +14,19 @@ use Rattle.gmp.proofs.Floor.{data-split, data-le}
 pub stretch-in : (c f n : ℕ) {o : Bool} → o ≡ outsideStretch c f n → o ≡ false → Stretch c f n
 stretch-in c f n p q =
     let e : outsideStretch c f n ≡ false = sym p ∙ q in
-    let r = or-right (ltb places c) (ltb f 1 || ltb (suc places) (f + n)) e in
-    record {
-      count = ltb-false places c (or-left (ltb places c) (ltb f 1 || ltb (suc places) (f + n)) e);
-      from = ltb-false f 1 (or-left (ltb f 1) (ltb (suc places) (f + n)) r);
-      to = ltb-false (suc places) (f + n) (or-right (ltb f 1) (ltb (suc places) (f + n)) r);
-    }
+    let r = or-right (ltb places c) (ltb f 1 || ltb places (f + n - 1)) e in
+    let first : 1 ≤ f = ltb-false f 1 (or-left (ltb f 1) (ltb places (f + n - 1)) r) in
+    let last : f + n - 1 ≤ places = ltb-false places (f + n - 1) (or-right (ltb f 1) (ltb places (f + n - 1)) r) in
+    record { count = ltb-false places c (or-left (ltb places c) (ltb f 1 || ltb places (f + n - 1)) e); from = first; to = omega arith }
 
 -- there, what is counted is what there is
 pub data-inside : (c f n : ℕ) → Stretch c f n → dataIn c f n ≡ dataFrom c f n
 unfolding dataIn
-data-inside c f n s = rw (le-ltb places c (s .count), le-ltb f 1 (s .from), le-ltb (suc places) (f + n) (s .to))
+data-inside c f n s = rw (le-ltb places c (s .count), le-ltb f 1 (s .from), le-ltb places (f + n - 1) (omega (arith, s .to)))
 
--- the same test without the sum
-pub ends-late : (f n : ℕ) → n ≤ places → ltb (places - n + 1) f ≡ ltb (suc places) (f + n)
-ends-late f n l = same-test (places - n + 1) f (suc places) (f + n) (λ k. omega arith) (λ k. omega arith)
+-- the last test without the sum, which could wrap
+pub ends-late : (f n : ℕ) → 1 ≤ f + n → n ≤ places → ltb (places - n + 1) f ≡ ltb places (f + n - 1)
+ends-late f n h l = same-test (places - n + 1) f places (f + n - 1) (λ k. omega arith) (λ k. omega arith)
 
 -- both products fit a machine number
 pub stretch-product : (c f n : ℕ) → Stretch c f n → (f - 1 + n) * c ≤ places * places

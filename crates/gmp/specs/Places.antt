@@ -1,5 +1,5 @@
 -- Document 01, "GMP places" (ITU-T G.709 Annex D): the places of a four-frame envelope and their kinds. Assumes nothing: these are definitions.
-use Prim.Native.Nat.{ℕ, suc, _+_, _*_, _%_, _≤_}
+use Prim.Native.Nat.{ℕ, suc, _+_, _-_, _*_, _%_, _≤_}
 use mathlib.Core.Bool.{Bool, cond, _||_}
 use mathlib.Core.Path.{_≡_}
 use lib.Dec.{ltb}
@@ -42,7 +42,7 @@ pub record Stretch (c f n : ℕ) : Type 0 where
 
 -- one of these is not so
 abbrev pub outsideStretch : ℕ → ℕ → ℕ → Bool
-outsideStretch c f n = ltb places c || (ltb f 1 || ltb (suc places) (f + n))
+outsideStretch c f n = ltb places c || (ltb f 1 || ltb places (f + n - 1))
 
 -- how many of the n places from f on are data, for any numbers: none where they are not all places
 unfoldable pub dataIn : ℕ → ℕ → ℕ → ℕ

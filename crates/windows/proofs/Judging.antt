@@ -15,7 +15,7 @@ use Rattle.gmp.specs.Places.{places, dataFrom, Stretch, dataIn}
 use Rattle.gmp.proofs.Counts.{data-inside}
 use Rattle.windows.specs.Windows.{groupBytes, windowBytes, outsideWindow, Window, spareSet}
 use Rattle.windows.specs.Answers.{wrong, mapAnswer, unmapAnswer}
-use Rattle.bits.proofs.Common.{or-left, or-right, same-test}
+use Rattle.bits.proofs.Common.{or-left, or-right}
 
 -- ---- the numbers
 
@@ -51,10 +51,6 @@ data-window c f n w = data-inside c f n (stretch-of c f n n w (omega arith))
 
 pub counted : (c f n : ℕ) {o : Bool} {m : ℕ} → o ≡ outsideWindow c f n → o ≡ false → m ≡ dataIn c f n → m ≡ dataFrom c f n
 counted c f n p q h = h ∙ data-window c f n (window-in c f n p q)
-
--- a window that ends too late, without the sum
-pub ends-late : (f n : ℕ) → 2 ≤ n → n ≤ places → ltb (places - n + 1) f ≡ ltb places (f + n - 1)
-ends-late f n h l = same-test (places - n + 1) f places (f + n - 1) (λ k. omega arith) (λ k. omega arith)
 
 -- ---- the table of `map`, as the chain of its tests
 
