@@ -33,7 +33,7 @@ pub fn information(n: u64) -> usize
     if 8 < n {
         return 0;
     }
-    152915 * (n as usize)
+    line::SUPER_INFO_BYTES * (n as usize)
 }
 
 // The bytes of parity of n super frames.
@@ -43,7 +43,7 @@ pub fn parity(n: u64) -> usize
     if 8 < n {
         return 0;
     }
-    10240 * (n as usize)
+    line::SUPER_PARITY_BYTES * (n as usize)
 }
 
 // The bytes of a capture of n super frames.
@@ -53,7 +53,7 @@ pub fn capture(n: u64) -> usize
     if 8 < n {
         return 0;
     }
-    175616 * (n as usize) + 7680
+    line::SUPER_CAPTURE_BYTES * (n as usize) + line::FILLER_BYTES
 }
 
 // The bytes of a window of n places.
