@@ -13,8 +13,8 @@ pub fn information(n: u64, t: u64, info: &[u8]) -> &[u8]
 {
     let r = information_answer(n, t, info);
     if r.number == 0 {
-        let from = 30583 * (t as usize);
-        return &info[from..from + 30583];
+        let from = line::INFO_BYTES * (t as usize);
+        return &info[from..from + line::INFO_BYTES];
     }
     &info[0..0]
 }
@@ -29,7 +29,7 @@ pub fn information_answer(n: u64, t: u64, info: &[u8]) -> Answer
     if 5 * n <= t {
         return answer::refuse(answer::OUTSIDE_SET, 0);
     }
-    if info.len() as u64 != 152915 * n {
+    if info.len() as u64 != line::SUPER_INFO_BYTES as u64 * n {
         return answer::refuse(answer::WRONG_LENGTH, answer::buffer_place(1));
     }
     answer::granted(0)

@@ -12,6 +12,11 @@ ghost use Rattle.line.specs.Words.{wordsOf};
 ghost use Rattle.coder.specs.Code.{captureOf, codeAnswer, codeLeaves};
 ghost use Rattle.coder.specs.Parts.{Agree, plainBit, tailBit, entry, Crcs, Granted, Ready, judged};
 
+// Words are written eight at a time.
+const SUPER_GROUPS: usize = line::SUPER_ELEMENTS / 8;
+
+const FILLER_GROUPS: usize = line::LONGEST_WAIT / 8;
+
 // Codes n super frames whose FEC blocks count from m0 on. The count is the number of words written.
 pub fn code(n: u64, m0: u64, info: &[u8], parity: &[u8], capture: &mut [u8]) -> Answer
     ensures { λ r. ⌜ Outcome (codeAnswer n m0 (now (info .entry)) (now (parity .entry)) (now (capture .entry)))
@@ -40,16 +45,16 @@ fn judge(n: u64, m0: u64, info: u64, parity: u64, capture: u64) -> Answer
     if !line::mbas_allowed(m0) {
         return answer::refuse(answer::OUTSIDE_SET, 0);
     }
-    if info != 152915 * n {
+    if info != line::SUPER_INFO_BYTES as u64 * n {
         return answer::refuse(answer::WRONG_LENGTH, answer::buffer_place(1));
     }
-    if parity != 10240 * n {
+    if parity != line::SUPER_PARITY_BYTES as u64 * n {
         return answer::refuse(answer::WRONG_LENGTH, answer::buffer_place(2));
     }
-    if capture != 175616 * n + 7680 {
+    if capture != line::SUPER_CAPTURE_BYTES as u64 * n + line::FILLER_BYTES as u64 {
         return answer::refuse(answer::WRONG_LENGTH, answer::buffer_place(3));
     }
-    answer::granted(10976 * n + 480)
+    answer::granted(line::SUPER_ELEMENTS as u64 * n + line::LONGEST_WAIT as u64)
 }
 
 // Makes the tables that every word needs, once, and codes.
@@ -111,7 +116,7 @@ fn write_groups(
     requires { ⌜ Ready n (now info) (now parity) (now crcs) (now sequence) (now table) (now tails) × (length (now capture) ≡ captureLength n) ⌝ }
     ensures { λ _. ⌜ now (capture .exit) ≡ captureOf n m0 (now (info .entry)) (now (parity .entry)) ⌝ }
 {
-    for g in 0..1372 * n + 60 {
+    for g in 0..SUPER_GROUPS * n + FILLER_GROUPS {
         let words = group(n, m0, info, parity, crcs, sequence, table, tails, g);
         let from = 128 * g;
         put_group(&mut capture[from..from + 128], symbols::interleave(words));
@@ -177,7 +182,7 @@ fn plain_element(
     ensures { λ r. ⌜ Agree (bitAt r) (plainBit (fecBit m0 (now (info .entry)) (now (parity .entry))) e) ⌝ }
 {
     let l = e % line::SUPER_ELEMENTS;
-    if 10970 <= l {
+    if line::PAD_ELEMENT <= l {
         return [0u8; 16];
     }
     let t = 5 * (e / line::SUPER_ELEMENTS) + l / line::FEC_ELEMENTS;

@@ -21,10 +21,15 @@ ghost use Rattle.editor.specs.Parts.{judged, Accepted, onePeriod, firstE
 const PERIOD_BYTES: usize = 8208;
 
 // The bits of information behind an FEC block's first client block.
-const BEHIND_FIRST: usize = 244407;
+const BEHIND_FIRST: usize = line::INFO_BITS - line::BLOCK_BITS;
 
 // From the first element of an FEC block on, so many words can hold one of its elements.
-const STRETCH: usize = 2674;
+const STRETCH: usize = line::FEC_ELEMENTS + line::LONGEST_WAIT;
+
+// A client block in whole bytes, and the length of a list.
+const BLOCK_BYTES: u64 = (line::BLOCK_BITS as u64 + 7) / 8;
+
+const LIST_LENGTH: u64 = 145;
 
 // Replaces client block `block` of a capture of n super frames by the 257 bits of `bits` and its FEC block's parity by `parity`, changes the
 // CRC by what the changed bits leave, and lists the words that hold any of these. The count is how many were listed.
@@ -65,19 +70,19 @@ fn judge(n: u64, block: u64, bits: u64, parity: u64, capture: u64, list: u64) ->
     if 8 < n {
         return answer::refuse(answer::OUTSIDE_SET, 0);
     }
-    if 4760 * n <= block {
+    if line::SUPER_CLIENT_BLOCKS as u64 * n <= block {
         return answer::refuse(answer::OUTSIDE_SET, 0);
     }
-    if bits != 33 {
+    if bits != BLOCK_BYTES {
         return answer::refuse(answer::WRONG_LENGTH, answer::buffer_place(1));
     }
-    if parity != 2048 {
+    if parity != line::PARITY_BYTES as u64 {
         return answer::refuse(answer::WRONG_LENGTH, answer::buffer_place(2));
     }
-    if capture != 175616 * n + 7680 {
+    if capture != line::SUPER_CAPTURE_BYTES as u64 * n + line::FILLER_BYTES as u64 {
         return answer::refuse(answer::WRONG_LENGTH, answer::buffer_place(3));
     }
-    if list != 145 {
+    if list != LIST_LENGTH {
         return answer::refuse(answer::WRONG_LENGTH, answer::buffer_place(4));
     }
     answer::granted(0)
@@ -238,7 +243,7 @@ fn crc_change(b: usize, bits: &[u8], capture: &[u8], scr: &[u8; PERIOD_BYTES]) -
     ensures { λ r. ⌜ r ≡ crcChange b (now (bits .entry)) (fecIn (wordIn (now (capture .entry))) (fecOf b)) ⌝ }
 {
     let mut r: u32 = 0;
-    for j in 0..257 {
+    for j in 0..line::BLOCK_BITS {
         r = crc::take(r, changed_bit(b, bits, capture, scr, j));
     }
     crc::shifted(

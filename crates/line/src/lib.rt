@@ -9,7 +9,8 @@ ghost use Rattle.line.specs.Fec.{mbasAllowed, mbasOf};
 ghost use Rattle.line.specs.Slots.{slotOf, delay, elementIn, holds};
 ghost use Rattle.line.specs.Words.{symbolPlace, wordIn};
 
-// ---- the sizes of document 01, as `specs/Sizes.antt` names them: bits, bytes and elements of a client block, an FEC block, a super frame
+// ---- the sizes of document 01, as `specs/Sizes.antt` names them: bits, bytes and elements of a client block, an FEC block, a super frame,
+// and what follows from them
 
 pub const BLOCK_BITS: usize = 257;
 
@@ -29,6 +30,8 @@ pub const INFO_BYTES: usize = 30583;
 
 pub const PARITY_BYTES: usize = 2048;
 
+pub const FEC_BLOCKS: usize = 5;
+
 pub const PAD_FROM: usize = 1305430;
 
 pub const ELEMENT_BITS: usize = 119;
@@ -39,12 +42,24 @@ pub const FEC_ELEMENTS: usize = 2194;
 
 pub const SUPER_ELEMENTS: usize = 10976;
 
-pub const SUPER_INFO_BYTES: usize = 152915;
+// The first element of a super frame's pad.
+pub const PAD_ELEMENT: usize = FEC_BLOCKS * FEC_ELEMENTS;
 
-pub const SUPER_PARITY_BYTES: usize = 10240;
+pub const SUPER_CLIENT_BLOCKS: usize = FEC_BLOCKS * CLIENT_BLOCKS;
+
+pub const SUPER_INFO_BYTES: usize = FEC_BLOCKS * INFO_BYTES;
+
+pub const SUPER_PARITY_BYTES: usize = FEC_BLOCKS * PARITY_BYTES;
 
 // So many words the first row waits in the interleaver: as many more than elements a capture has.
 pub const LONGEST_WAIT: usize = 480;
+
+pub const WORD_BYTES: usize = 16;
+
+// What a super frame adds to a capture, and what a capture has besides.
+pub const SUPER_CAPTURE_BYTES: usize = WORD_BYTES * SUPER_ELEMENTS;
+
+pub const FILLER_BYTES: usize = WORD_BYTES * LONGEST_WAIT;
 
 // ----
 

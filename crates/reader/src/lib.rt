@@ -67,13 +67,13 @@ fn judge(n: u64, m0: u64, capture_len: u64, info_len: u64, parity_len: u64) -> A
     if is_outside(n, m0) {
         return answer::refuse(answer::OUTSIDE_SET, 0);
     }
-    if capture_len != 175616 * n + 7680 {
+    if capture_len != line::SUPER_CAPTURE_BYTES as u64 * n + line::FILLER_BYTES as u64 {
         return answer::refuse(answer::WRONG_LENGTH, answer::buffer_place(1));
     }
-    if info_len != 152915 * n {
+    if info_len != line::SUPER_INFO_BYTES as u64 * n {
         return answer::refuse(answer::WRONG_LENGTH, answer::buffer_place(2));
     }
-    if parity_len != 10240 * n {
+    if parity_len != line::SUPER_PARITY_BYTES as u64 * n {
         return answer::refuse(answer::WRONG_LENGTH, answer::buffer_place(3));
     }
     answer::granted(0)
@@ -281,7 +281,7 @@ fn tally_words(t: &[u16; 4096], positions: &[u8; 512], n: usize, capture: &[u8])
         filler: 0,
         seen: 0,
     };
-    for w in 0..10976 * n + line::LONGEST_WAIT {
+    for w in 0..line::SUPER_ELEMENTS * n + line::LONGEST_WAIT {
         s = take_word(t, positions, n, capture, w, s);
     }
     s
@@ -351,7 +351,7 @@ fn frame(
     ensures { λ _. ⌜ now (out .exit) ≡ frameOf (now (capture .entry)) f ⌝ }
 {
     let mut here = element(t, positions, capture, line::SUPER_ELEMENTS * f);
-    for l in 0..10976 {
+    for l in 0..line::SUPER_ELEMENTS {
         let next = element(t, positions, capture, line::SUPER_ELEMENTS * f + (l + 1));
         let a = 15 * l - l / 8;
         let e = 15 * (l + 1) - (l + 1) / 8;

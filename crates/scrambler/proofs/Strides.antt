@@ -1,6 +1,6 @@
 -- The rule at strides: o(n+16m) is the sum of o(n+15m), o(n+13m), o(n+4m) and o(n) for m = 1, 2, 4, .., since in the square of a sum
 -- without carries the mixed terms cancel. At m = 128 it adds whole bytes. Assumes nothing.
-use Prim.Native.Nat.{ℕ, _+_, _-_, _*_, _/_, _%_, _≤_}
+use Prim.Native.Nat.{ℕ, _+_, _-_, _*_, _/_, _%_, _≤_, _<_}
 use mathlib.Core.Path.{_≡_, sym, ap, ap₂, _∙_}
 use mathlib.Core.List.{List, _++_, append-nil}
 use native.Mathlib.Nat.{le-of-eq}
@@ -86,6 +86,12 @@ byte-sum s k r h =
     ∙ num-ext 8 (added (added (added a b) c) d) o 0 (8 * k)
     (λ j l. four (a (0 + j)) (b (0 + j)) (c (0 + j)) (d (0 + j))
     ∙ sym (shifted (8 * s) r (8 * k + j) (8 * (k - s) + (0 + j)) (8 * (k - 3 * s) + (0 + j)) (8 * (k - 12 * s) + (0 + j)) (8 * (k - 16 * s) + (0 + j)) (omega arith) (omega arith) (omega arith) (omega arith))))
+
+-- the same out of a buffer that has all bytes before it
+pub next-sum : (s k : ℕ) (f : ℕ → ℕ) → Rule (8 * s) → 1 ≤ s → 16 * s ≤ k → ((j : ℕ) → j < k → f j ≡ byteOf o j)
+    → bitXor (bitXor (bitXor (f (k - s)) (f (k - 3 * s))) (f (k - 12 * s))) (f (k - 16 * s)) ≡ byteOf o k
+next-sum s k f r some far at =
+    rw (at (k - s) (omega arith), at (k - 3 * s) (omega arith), at (k - 12 * s) (omega arith), at (k - 16 * s) (omega arith)) (byte-sum s k r far)
 
 -- ---- a buffer that is begun
 

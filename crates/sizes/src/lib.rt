@@ -7,23 +7,27 @@ ghost use Rattle.windows.specs.Windows.{groupBytes, windowBytes};
 ghost use Rattle.sizes.specs.Lengths.{Bytes, upTo, groupsLength};
 
 // A capture of eight super frames has 1,412,608 bytes, and no other buffer is longer. A space has one byte more, so that what is too long is seen.
-pub type Large = [u8; 1412609];
+pub const LARGE_BYTES: usize = 8 * line::SUPER_CAPTURE_BYTES + line::FILLER_BYTES + 1;
+
+pub type Large = [u8; LARGE_BYTES];
 
 // The parity of eight super frames has 81,920 bytes.
-pub type Small = [u8; 81921];
+pub const SMALL_BYTES: usize = 8 * line::SUPER_PARITY_BYTES + 1;
+
+pub type Small = [u8; SMALL_BYTES];
 
 pub fn large_space() -> Large
     ensures { λ r. ⌜ 1412609 ≡ length r ⌝ }
     ensures { λ r. ⌜ r ≡ replicate 1412609 0 ⌝ }
 {
-    [0; 1412609]
+    [0; LARGE_BYTES]
 }
 
 pub fn small_space() -> Small
     ensures { λ r. ⌜ 81921 ≡ length r ⌝ }
     ensures { λ r. ⌜ r ≡ replicate 81921 0 ⌝ }
 {
-    [0; 81921]
+    [0; SMALL_BYTES]
 }
 
 // The bytes of information of n super frames; 0 where no capture has so many.
@@ -33,7 +37,7 @@ pub fn information(n: u64) -> usize
     if 8 < n {
         return 0;
     }
-    152915 * (n as usize)
+    line::SUPER_INFO_BYTES * (n as usize)
 }
 
 // The bytes of parity of n super frames.
@@ -43,7 +47,7 @@ pub fn parity(n: u64) -> usize
     if 8 < n {
         return 0;
     }
-    10240 * (n as usize)
+    line::SUPER_PARITY_BYTES * (n as usize)
 }
 
 // The bytes of a capture of n super frames.
@@ -53,7 +57,7 @@ pub fn capture(n: u64) -> usize
     if 8 < n {
         return 0;
     }
-    175616 * (n as usize) + 7680
+    line::SUPER_CAPTURE_BYTES * (n as usize) + line::FILLER_BYTES
 }
 
 // The bytes of a window of n places.

@@ -7,7 +7,7 @@ use Rattle.bits.specs.Bits.{byteOf}
 use Rattle.bits.proofs.Lists.{Filled, filled-more, filled-at, filled-to}
 use Rattle.bits.proofs.LoopLaws.{loops}
 use Rattle.scrambler.specs.Scrambler.{o}
-use Rattle.scrambler.proofs.Strides.{byte-sum, opened-begun}
+use Rattle.scrambler.proofs.Strides.{next-sum, opened-begun}
 use Rattle.scrambler.proofs.go_on.Statement.{statement}
 use Rattle.scrambler.proofs.go_on.Tie as tie
 use Rattle.scrambler.proofs.go_on.Reads as reads
@@ -80,7 +80,7 @@ loop-again c =
       omega arith,
       omega arith,
       filled-more (h .inv .2) (omega arith)
-          (rw (at (h .k - s) (omega arith), at (h .k - 3 * s) (omega arith), at (h .k - 12 * s) (omega arith), at (h .k - 16 * s) (omega arith)) (byte-sum s (h .k) (a .pre .1) far)),
+          (next-sum s (h .k) (λ j. getD (h .out) j 0) (a .pre .1) some far at),
     )
 
 same-length : tie.Need-same-length Inv-loop μ-loop
