@@ -2,9 +2,9 @@
 ghost use mathlib.Core.Path.{_≡_};
 ghost use lib.ListN.{length, replicate};
 ghost use Rattle.line.specs.Sizes.{infoLength, parityLength, captureLength};
-ghost use Rattle.gmp.specs.Places.{places};
+ghost use Rattle.gmp.specs.Places.{places, dataIn};
 ghost use Rattle.windows.specs.Windows.{groupBytes, windowBytes};
-ghost use Rattle.sizes.specs.Lengths.{Bytes, upTo, groupsLength};
+ghost use Rattle.sizes.specs.Lengths.{Bytes, upTo};
 
 // A capture of eight super frames has 1,412,608 bytes, and no other buffer is longer. A space has one byte more, so that what is too long is seen.
 pub const LARGE_BYTES: usize = 8 * line::SUPER_CAPTURE_BYTES + line::FILLER_BYTES + 1;
@@ -67,27 +67,13 @@ pub fn window(n: u64) -> usize
     if gmp::PLACES < n {
         return 0;
     }
-    257 * (n as usize) / 2
+    windows::PAIR_BYTES * (n as usize) / 2
 }
 
-// The bytes of the groups in the window of n places from f on: "The first j places hold floor(j·C / P) data places." Where the
-// numbers are outside their sets it is 0, and mapping refuses them.
+// The bytes of the groups in the window of n places from f on. Where the numbers are outside their sets it is 0, and mapping refuses them.
 pub fn groups(c: u64, f: u64, n: u64) -> usize
-    ensures { λ r. ⌜ Bytes (groupBytes places) (groupsLength c f n) r ⌝ }
+    ensures { λ r. ⌜ Bytes (groupBytes places) (groupBytes (dataIn c f n)) r ⌝ }
 {
-    if gmp::PLACES < c {
-        return 0;
-    }
-    if gmp::PLACES < n {
-        return 0;
-    }
-    if gmp::PLACES < f {
-        return 0;
-    }
-    if f < 1 {
-        return 0;
-    }
-    let to = (f - 1 + n) * c / gmp::PLACES;
-    let from = (f - 1) * c / gmp::PLACES;
-    ((257 * (to - from) + 1) / 2) as usize
+    let d = gmp::data_in(c, f, n);
+    (windows::PAIR_BYTES * (d as usize) + 1) / 2
 }
