@@ -1,26 +1,22 @@
 // Document 01, section "Both sides of each edge": the numbers of super frames, the client blocks and one flip in every word, with what was answered. The
 // same calls are made for every number of super frames from 0 to 9. For 0 and 9 the buffers are those of 1 and of 8, so that their lengths are wrong
 // as well: number 1 comes first. Digests before and after a call show that a refusal changed nothing.
+ghost use mathlib.Core.Path.{_≡_};
+ghost use lib.ListN.{length};
 use answer::Answer;
 
-fn change(name: &[u8], before: u64, after: u64) {
-    said::text(name);
-    said::hex(b" before ", before);
-    said::hex(b" after ", after);
-}
-
 fn say_code(n: u64, r: Answer, before: u64, after: u64) {
-    said::number(b"N ", n);
+    said::frames(n);
     said::outcome(b" code: ", r);
-    change(b" capture", before, after);
+    said::change(b" capture", before, after);
 }
 
 fn say_read(n: u64, r: Answer, before: u64, after: u64, parity_before: u64, parity_after: u64) {
-    said::number(b"N ", n);
+    said::frames(n);
     said::outcome(b" read, one flip in every word: ", r);
-    change(b" information", before, after);
-    change(b" parity", parity_before, parity_after);
-    said::text(b"\n");
+    said::change(b" information", before, after);
+    said::change(b" parity", parity_before, parity_after);
+    said::end_line();
 }
 
 fn say_edit(
@@ -32,40 +28,34 @@ fn say_edit(
     list_before: u64,
     list_after: u64,
 ) {
-    said::number(b"N ", n);
+    said::frames(n);
     said::number(b" edit of block ", block);
     said::outcome(b": ", r);
-    change(b" capture", before, after);
-    change(b" list", list_before, list_after);
-    said::text(b"\n");
+    said::change(b" capture", before, after);
+    said::change(b" list", list_before, list_after);
+    said::end_line();
 }
 
-fn say_inputs(info: &[u8], parity: &[u8]) {
-    said::digest(b" information ", info);
-    said::digest(b" parity ", parity);
-    said::text(b"\n");
-}
-
-fn code_from(n: u64, capture: &mut [u8], info: &mut [u8], parity: &mut [u8]) {
-    let g = made::fill(made::start(100 + n % 10), info);
-    made::fill(g, parity);
+fn code_into(n: u64, info: &[u8], parity: &[u8], capture: &mut [u8]) {
     let before = made::digest(capture);
     let r = capture::code(n, 7, info, parity, capture);
     say_code(n, r, before, made::digest(capture));
-    say_inputs(info, parity);
+    said::inputs(made::digest(info), made::digest(parity));
 }
 
-// With the buffers of m super frames, zeros but for the input. The parity's is cut from one as long as the information's.
-fn code(n: u64, m: usize, capture: &mut [u8]) {
-    let k = m % 9;
-    let mut info = space::info_8();
-    let mut parity = space::info_8();
-    code_from(
-        n,
-        capture,
-        &mut info[0..152915 * k],
-        &mut parity[0..10240 * k],
-    );
+fn code_from(n: u64, m: u64, room: &[u8], capture: &mut [u8])
+    requires { ⌜ 1412609 ≡ length (now room) ⌝ }
+{
+    let a = sizes::information(m);
+    let b = a + sizes::parity(m);
+    code_into(n, &room[0..a], &room[a..b], capture);
+}
+
+// With the information and the parity of m super frames, one made behind the other.
+fn code(n: u64, m: u64, capture: &mut [u8]) {
+    let mut room = sizes::large_space();
+    made::fill(made::start(100 + n % 10), &mut room);
+    code_from(n, m, &room, capture);
 }
 
 fn read_into(n: u64, capture: &[u8], info: &mut [u8], parity: &mut [u8]) {
@@ -82,16 +72,13 @@ fn read_into(n: u64, capture: &[u8], info: &mut [u8], parity: &mut [u8]) {
     );
 }
 
-fn read(n: u64, m: usize, capture: &[u8]) {
-    let k = m % 9;
-    let mut info = space::info_8();
-    let mut parity = space::info_8();
-    read_into(
-        n,
-        capture,
-        &mut info[0..152915 * k],
-        &mut parity[0..10240 * k],
-    );
+// Into zeros.
+fn read(n: u64, m: u64, capture: &[u8]) {
+    let mut info = sizes::large_space();
+    let mut parity = sizes::small_space();
+    let a = sizes::information(m);
+    let b = sizes::parity(m);
+    read_into(n, capture, &mut info[0..a], &mut parity[0..b]);
 }
 
 // The seven bits behind the 257 are zero.
@@ -113,26 +100,11 @@ fn edit(n: u64, block: u64, capture: &mut [u8]) {
     );
 }
 
-// The word that has bit i only.
-fn bit(i: usize) -> [u8; 16] {
-    let mut v = [0u8; 16];
-    let k = i % 128;
-    v[k / 8] = 128 >> (k % 8);
-    v
-}
-
-// One bit of each word, filler too.
-fn turn_in_all(capture: &mut [u8]) {
-    for w in 0..capture.len() / 16 {
-        damage::turn(capture, w, bit(w % 128 * 37 + 11));
-    }
-}
-
 // Turned twice the bits are as they were.
-fn flipped(n: u64, m: usize, capture: &mut [u8]) {
-    turn_in_all(capture);
+fn flipped(n: u64, m: u64, capture: &mut [u8]) {
+    damage::turn_in_all(capture);
     read(n, m, capture);
-    turn_in_all(capture);
+    damage::turn_in_all(capture);
 }
 
 // The last client block, and the first past it; a block far past the end for none.
@@ -141,22 +113,23 @@ fn edited(n: u64, capture: &mut [u8]) {
     edit(n, 4760 * (n % 10), capture);
 }
 
-fn case(n: u64, m: usize, capture: &mut [u8]) {
+fn case(n: u64, m: u64, capture: &mut [u8]) {
     code(n, m, capture);
     flipped(n, m, capture);
     edited(n, capture);
 }
 
-fn sized(n: u64, m: usize) {
-    let k = m % 9;
-    let mut capture = space::capture_8();
-    case(n, m, &mut capture[0..175616 * k + 7680]);
+// With the buffers of m super frames.
+fn sized(n: u64, m: u64) {
+    let mut capture = sizes::large_space();
+    let k = sizes::capture(m);
+    case(n, m, &mut capture[0..k]);
 }
 
 fn main() {
     sized(0, 1);
-    for m in 1..9usize {
-        sized(m as u64, m);
+    for m in 1..9u64 {
+        sized(m, m);
     }
     sized(9, 8);
 }

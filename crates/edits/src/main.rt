@@ -9,6 +9,9 @@ use made::Generator;
 // A block past the end of every capture.
 const NO_BLOCK: u64 = 99999;
 
+// A bit past the end of every word.
+const NO_BIT: usize = 128;
+
 // ---- what is made
 
 // The first number of the FEC blocks of n super frames.
@@ -84,25 +87,22 @@ fn code_from(n: u64, room: &[u8], capture: &mut [u8])
     capture::code(n, first_number(n), &room[0..a], &room[a..b], capture);
 }
 
-fn code(n: u64, capture: &mut [u8]) {
+fn code(n: u64, block: u64, capture: &mut [u8]) {
     let mut room = sizes::large_space();
-    fill_input(n, NO_BLOCK, &mut room);
+    fill_input(n, block, &mut room);
     code_from(n, &room, capture);
 }
 
 // ---- an edit
 
-fn end_line() {
-    said::text(b"\n");
-}
-
 fn say(r: Answer, capture: &[u8], list: &[u64]) {
     said::outcome(b": ", r);
     said::digest(b" capture ", capture);
     said::hex(b" list ", made::digest_numbers(list));
-    end_line();
+    said::end_line();
 }
 
+// Whether it was granted.
 fn edit_said(
     n: u64,
     block: u64,
@@ -110,38 +110,38 @@ fn edit_said(
     parity: &[u8],
     capture: &mut [u8],
     list: &mut [u64],
-) {
+) -> bool {
     let r = capture::edit(n, block, client, parity, capture, list);
     say(r, capture, list);
+    r.number == 0
 }
 
-// Edits a block by what is made for block `of`, in buffers of the lengths given, and writes what came.
+// Edits a block by what is made for it, in buffers of the lengths given, and writes what came.
 fn edit_lengths(
     n: u64,
     block: u64,
-    of: u64,
     spare: u8,
     client: usize,
     parity: usize,
     list: usize,
     capture: &mut [u8],
-) {
-    let bits = client_of(of, spare);
-    let new = parity_of(of);
+) -> bool {
+    let bits = client_of(block, spare);
+    let new = parity_of(block);
     let mut words = list_of();
     let i = client % 34;
     let j = parity % 2049;
     let k = list % 147;
-    edit_said(n, block, &bits[0..i], &new[0..j], capture, &mut words[0..k]);
+    edit_said(n, block, &bits[0..i], &new[0..j], capture, &mut words[0..k])
 }
 
-// The same with buffers of the stated lengths.
-fn edit(n: u64, block: u64, of: u64, spare: u8, capture: &mut [u8]) {
-    edit_lengths(n, block, of, spare, 33, 2048, 145, capture);
+// The same with buffers of the stated lengths, in the capture of one super frame.
+fn edit(block: u64, spare: u8, capture: &mut [u8]) -> bool {
+    edit_lengths(1, block, spare, 33, 2048, 145, capture)
 }
 
 fn name_block(n: u64, block: u64) {
-    said::number(b"N ", n);
+    said::frames(n);
     said::number(b" block ", block);
 }
 
@@ -154,26 +154,21 @@ fn say_truth(what: &[u8], truth: bool) {
     }
 }
 
-// ---- granted edits
+// ---- what a granted edit leaves
 
-fn codes_to(n: u64, room: &[u8], capture: &[u8], other: &mut [u8]) -> bool
-    requires { ⌜ 1412609 ≡ length (now room) ⌝ }
-{
-    code_from(n, room, other);
+fn codes_to(n: u64, block: u64, capture: &[u8], other: &mut [u8]) -> bool {
+    code(n, block, other);
     check::same(capture, other)
 }
 
-// Whether the capture is what coding afresh gives from what fills a room.
-fn is_afresh(n: u64, room: &[u8], capture: &[u8]) -> bool
-    requires { ⌜ 1412609 ≡ length (now room) ⌝ }
-{
+// Whether the capture is what coding afresh gives.
+fn is_afresh(n: u64, block: u64, capture: &[u8]) -> bool {
     let mut other = sizes::large_space();
     let k = sizes::capture(n);
-    codes_to(n, room, capture, &mut other[0..k])
+    codes_to(n, block, capture, &mut other[0..k])
 }
 
-// Whether that is what fills a room.
-fn is_input(n: u64, room: &[u8], info: &[u8], parity: &[u8]) -> bool
+fn fills(n: u64, room: &[u8], info: &[u8], parity: &[u8]) -> bool
     requires { ⌜ 1412609 ≡ length (now room) ⌝ }
 {
     let a = sizes::information(n);
@@ -181,76 +176,38 @@ fn is_input(n: u64, room: &[u8], info: &[u8], parity: &[u8]) -> bool
     check::same(info, &room[0..a]) && check::same(parity, &room[a..b])
 }
 
-fn reads_into(n: u64, room: &[u8], capture: &[u8], info: &mut [u8], parity: &mut [u8]) -> bool
-    requires { ⌜ 1412609 ≡ length (now room) ⌝ }
-{
-    let r = capture::read(n, first_number(n), capture, info, parity);
-    r.number == 0 && r.count == 0 && is_input(n, room, info, parity)
+// Whether that is what coding afresh takes.
+fn is_input(n: u64, block: u64, info: &[u8], parity: &[u8]) -> bool {
+    let mut room = sizes::large_space();
+    fill_input(n, block, &mut room);
+    fills(n, &room, info, parity)
 }
 
-// Whether the capture reads back to what fills a room, with nothing to repair.
-fn reads_back(n: u64, room: &[u8], capture: &[u8]) -> bool
-    requires { ⌜ 1412609 ≡ length (now room) ⌝ }
-{
+fn reads_into(n: u64, block: u64, capture: &[u8], info: &mut [u8], parity: &mut [u8]) -> bool {
+    let r = capture::read(n, first_number(n), capture, info, parity);
+    r.number == 0 && r.count == 0 && is_input(n, block, info, parity)
+}
+
+// Whether the capture reads back to that, with nothing to repair.
+fn reads_back(n: u64, block: u64, capture: &[u8]) -> bool {
     let mut info = sizes::large_space();
     let mut parity = sizes::small_space();
     let a = sizes::information(n);
     let b = sizes::parity(n);
-    reads_into(n, room, capture, &mut info[0..a], &mut parity[0..b])
-}
-
-fn say_compared(n: u64, room: &[u8], capture: &[u8])
-    requires { ⌜ 1412609 ≡ length (now room) ⌝ }
-{
-    say_truth(b": as coded afresh ", is_afresh(n, room, capture));
-    say_truth(b" reads back ", reads_back(n, room, capture));
-    end_line();
+    reads_into(n, block, capture, &mut info[0..a], &mut parity[0..b])
 }
 
 fn compare(n: u64, block: u64, capture: &[u8]) {
-    let mut room = sizes::large_space();
-    fill_input(n, block, &mut room);
     name_block(n, block);
-    say_compared(n, &room, capture);
+    say_truth(b": as coded afresh ", is_afresh(n, block, capture));
+    say_truth(b" reads back ", reads_back(n, block, capture));
+    said::end_line();
 }
 
-fn edit_coded(n: u64, block: u64, capture: &mut [u8]) {
-    code(n, capture);
-    name_block(n, block);
-    edit(n, block, block, 0, capture);
-    compare(n, block, capture);
-}
+// ---- edits of a capture as it was coded
 
-// A granted edit, compared with coding afresh and read back.
-fn grant(n: u64, block: u64) {
-    let mut capture = sizes::large_space();
-    let k = sizes::capture(n);
-    edit_coded(n, block, &mut capture[0..k]);
-}
-
-fn say_coded(n: u64, capture: &[u8]) {
-    said::number(b"N ", n);
-    said::digest(b" coded: ", capture);
-    end_line();
-}
-
-fn edit_past(n: u64, block: u64, capture: &mut [u8]) {
-    code(n, capture);
-    say_coded(n, capture);
-    name_block(n, block);
-    edit(n, block, 6, 0, capture);
-}
-
-// The capture as it was coded, and the first block past its end.
-fn past_end(n: u64) {
-    let mut capture = sizes::large_space();
-    let k = sizes::capture(n);
-    edit_past(n, 4760 * (n % 9), &mut capture[0..k]);
-}
-
-// ---- refused edits: of block 6, unless another is named, in the capture of one super frame
-
-fn refused_in(
+fn edit_coded(
+    frames: u64,
     n: u64,
     block: u64,
     spare: u8,
@@ -259,86 +216,65 @@ fn refused_in(
     list: usize,
     capture: &mut [u8],
 ) {
-    code(1, capture);
-    edit_lengths(n, block, 6, spare, client, parity, list, capture);
+    code(frames, NO_BLOCK, capture);
+    if edit_lengths(n, block, spare, client, parity, list, capture) {
+        compare(frames, block, capture);
+    }
 }
 
-fn refused(what: &[u8], n: u64, block: u64, spare: u8, client: usize, parity: usize, list: usize) {
+// Edits a block of n super frames in a capture that has as many as `frames` says. A granted edit is compared with coding afresh and read back.
+fn edited(frames: u64, n: u64, block: u64, spare: u8, client: usize, parity: usize, list: usize) {
     let mut capture = sizes::large_space();
-    said::text(what);
-    refused_in(
+    let k = sizes::capture(frames);
+    edit_coded(
+        frames,
         n,
         block,
         spare,
         client,
         parity,
         list,
-        &mut capture[0..183296],
+        &mut capture[0..k],
     );
 }
 
-// Number 1.
-fn outside(n: u64, block: u64) {
+// All is as stated, but for the numbers.
+fn numbered(frames: u64, n: u64, block: u64) {
     name_block(n, block);
-    refused(b"", n, block, 0, 33, 2048, 145);
+    edited(frames, n, block, 0, 33, 2048, 145);
 }
 
-// The word that has bit i only, and none where there is no such bit.
-fn bit(i: usize) -> [u8; 16] {
-    let mut v = [0u8; 16];
-    if i < 128 {
-        v[i / 8] = 128 >> (i % 8);
-    }
-    v
+fn grant(n: u64, block: u64) {
+    numbered(n, n, block);
 }
+
+fn say_coded(n: u64, capture: &mut [u8]) {
+    code(n, NO_BLOCK, capture);
+    said::frames(n);
+    said::digest(b" coded: ", capture);
+    said::end_line();
+}
+
+// The capture as it was coded, and the first block past its end.
+fn past_end(n: u64) {
+    let mut capture = sizes::large_space();
+    let k = sizes::capture(n);
+    say_coded(n, &mut capture[0..k]);
+    numbered(n, n, 4760 * (n % 9));
+}
+
+// Refused for its lengths or its spare bits: an edit of block 6 in the capture of one super frame.
+fn refused(what: &[u8], n: u64, spare: u8, client: usize, parity: usize, list: usize) {
+    said::text(what);
+    edited(1, n, 6, spare, client, parity, list);
+}
+
+// ---- edits of block 6 in a capture that is damaged
 
 fn turn_two(w: usize, i: usize, x: usize, j: usize, capture: &mut [u8]) {
-    damage::turn(capture, w, bit(i));
-    damage::turn(capture, x, bit(j));
+    damage::turn(capture, w, damage::bit(i));
+    damage::turn(capture, x, damage::bit(j));
 }
-
-fn wrong_in(w: usize, i: usize, x: usize, j: usize, spare: u8, capture: &mut [u8]) {
-    code(1, capture);
-    turn_two(w, i, x, j, capture);
-    edit(1, 6, 6, spare, capture);
-}
-
-// Bit i of word w is wrong and bit j of word x.
-fn wrong(what: &[u8], w: usize, i: usize, x: usize, j: usize, spare: u8) {
-    let mut capture = sizes::large_space();
-    said::text(what);
-    wrong_in(w, i, x, j, spare, &mut capture[0..183296]);
-}
-
-// Number 9: bit i of word w is wrong, which is one of those to be listed.
-fn listed_wrong(w: usize, i: usize) {
-    said::number(b"word ", w as u64);
-    said::number(b" bit ", i as u64);
-    wrong(b" wrong", w, i, w, 128, 0);
-}
-
-// Number 2, also where a spare bit is set.
-fn lengths() {
-    refused(b"list of 144", 1, 6, 0, 33, 2048, 144);
-    refused(b"list of 146", 1, 6, 0, 33, 2048, 146);
-    refused(b"client block of 32 bytes", 1, 6, 0, 32, 2048, 145);
-    refused(b"parity of 2047 bytes", 1, 6, 0, 33, 2047, 145);
-    refused(b"capture of N 1 as N 2", 2, 6, 0, 33, 2048, 145);
-    refused(b"spare bit set and list of 144", 1, 6, 1, 33, 2048, 144);
-}
-
-// Number 3, also where a word to be listed is wrong, and number 9.
-fn wrong_words() {
-    refused(b"lowest spare bit set", 1, 6, 1, 33, 2048, 145);
-    refused(b"highest spare bit set", 1, 6, 64, 33, 2048, 145);
-    wrong(b"spare bit set and listed word wrong", 15, 0, 15, 128, 1);
-    listed_wrong(15, 0);
-    listed_wrong(15, 127);
-    listed_wrong(2672, 77);
-    wrong(b"words 15 and 2672 wrong", 2672, 5, 15, 6, 0);
-}
-
-// ---- edits beside damage
 
 fn name_beside(w: usize) {
     said::number(b"word ", w as u64);
@@ -346,26 +282,67 @@ fn name_beside(w: usize) {
 }
 
 fn say_kept(w: usize, capture: &[u8]) {
-    let mut room = sizes::large_space();
-    fill_input(1, 6, &mut room);
     name_beside(w);
-    say_truth(b": kept ", is_afresh(1, &room, capture));
-    end_line();
+    say_truth(b": kept ", is_afresh(1, 6, capture));
+    said::end_line();
 }
 
-fn beside_in(w: usize, capture: &mut [u8]) {
-    code(1, capture);
-    turn_two(w, 5, w, 127, capture);
-    name_beside(w);
-    edit(1, 6, 6, 0, capture);
-    turn_two(w, 5, w, 127, capture);
-    say_kept(w, capture);
+fn damaged_in(w: usize, i: usize, x: usize, j: usize, spare: u8, capture: &mut [u8]) {
+    code(1, NO_BLOCK, capture);
+    turn_two(w, i, x, j, capture);
+    if edit(6, spare, capture) {
+        turn_two(w, i, x, j, capture);
+        say_kept(w, capture);
+    }
 }
 
-// Two bits of word w are wrong, which is not listed. They stay so: turned back, the capture is that of the edit without damage.
-fn beside(w: usize) {
+// Bit i of word w is wrong and bit j of word x. A granted edit keeps them so: turned back, the capture is that of the edit without damage.
+fn damaged(w: usize, i: usize, x: usize, j: usize, spare: u8) {
     let mut capture = sizes::large_space();
-    beside_in(w, &mut capture[0..183296]);
+    damaged_in(w, i, x, j, spare, &mut capture[0..183296]);
+}
+
+// Two bits of word w are wrong, which is not listed.
+fn beside(w: usize) {
+    name_beside(w);
+    damaged(w, 5, w, 127, 0);
+}
+
+// Number 9: bit i of word w is wrong, which is one of those to be listed.
+fn listed_wrong(w: usize, i: usize) {
+    said::number(b"word ", w as u64);
+    said::number(b" bit ", i as u64);
+    said::text(b" wrong");
+    damaged(w, i, w, NO_BIT, 0);
+}
+
+// ---- refused edits
+
+// Number 2, also where a spare bit is set.
+fn lengths() {
+    refused(b"list of 144", 1, 0, 33, 2048, 144);
+    refused(b"list of 146", 1, 0, 33, 2048, 146);
+    refused(b"client block of 32 bytes", 1, 0, 32, 2048, 145);
+    refused(b"parity of 2047 bytes", 1, 0, 33, 2047, 145);
+    refused(b"capture of N 1 as N 2", 2, 0, 33, 2048, 145);
+    refused(b"spare bit set and list of 144", 1, 1, 33, 2048, 144);
+}
+
+// Number 3, also where a word to be listed is wrong.
+fn spare_bits() {
+    refused(b"lowest spare bit set", 1, 1, 33, 2048, 145);
+    refused(b"highest spare bit set", 1, 64, 33, 2048, 145);
+    said::text(b"spare bit set and listed word wrong");
+    damaged(15, 0, 15, NO_BIT, 1);
+}
+
+// Number 9.
+fn wrong_words() {
+    listed_wrong(15, 0);
+    listed_wrong(15, 127);
+    listed_wrong(2672, 77);
+    said::text(b"words 15 and 2672 wrong");
+    damaged(2672, 5, 15, 6, 0);
 }
 
 // ---- edits of a capture that was never coded
@@ -394,12 +371,12 @@ fn name_never(block: u64, what: &[u8]) {
 fn say_never(block: u64, capture: &[u8]) {
     name_never(block, b" before:");
     said::digest(b" capture ", capture);
-    end_line();
+    said::end_line();
 }
 
 fn edit_never(block: u64, what: &[u8], capture: &mut [u8]) {
     name_never(block, what);
-    edit(1, block, block, 0, capture);
+    edit(block, 0, capture);
 }
 
 fn edit_twice(block: u64, capture: &mut [u8]) {
@@ -420,7 +397,7 @@ fn never_coded(block: u64) {
 fn list_before() {
     let list = list_of();
     said::hex(b"list before: ", made::digest_numbers(&list[0..145]));
-    end_line();
+    said::end_line();
 }
 
 fn grants() {
@@ -438,10 +415,11 @@ fn grants() {
 }
 
 fn refusals() {
-    outside(0, 0);
-    outside(9, 0);
-    outside(1, 18446744073709551615);
+    numbered(1, 0, 0);
+    numbered(1, 9, 0);
+    numbered(1, 1, 18446744073709551615);
     lengths();
+    spare_bits();
     wrong_words();
 }
 

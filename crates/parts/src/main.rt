@@ -5,18 +5,12 @@ fn part(n: u64, t: u64, info: &[u8]) {
     said::outcome(b": ", r);
     said::number(b" bytes ", p.len() as u64);
     said::digest(b" digest ", p);
-    said::text(b"\n");
+    said::end_line();
 }
 
 fn numbered(n: u64, t: u64, info: &[u8]) {
-    said::number(b"N ", n);
+    said::frames(n);
     said::number(b" t ", t);
-    part(n, t, info);
-}
-
-fn named(name: &[u8], n: u64, t: u64, info: &mut [u8]) {
-    made::fill(made::start(101), info);
-    said::text(name);
     part(n, t, info);
 }
 
@@ -28,44 +22,29 @@ fn ask(n: u64, last: u64, info: &[u8]) {
     numbered(n, 18446744073709551615, info);
 }
 
-fn parts(n: u64, last: u64, info: &mut [u8]) {
-    made::fill(made::start(100 + n % 9), info);
-    ask(n, last, info);
+fn parts(n: u64, last: u64) {
+    let mut info = sizes::large_space();
+    let a = sizes::information(n);
+    made::fill(made::start(100 + n % 9), &mut info);
+    ask(n, last, &info[0..a]);
 }
 
-fn one() {
-    let mut info = [0u8; 152915];
-    parts(1, 4, &mut info);
-}
-
-fn eight() {
-    let mut info = space::info_8();
-    parts(8, 39, &mut info);
-}
-
-// With the information of one super frame.
-fn outside(name: &[u8], n: u64, t: u64) {
-    let mut info = [0u8; 152915];
-    named(name, n, t, &mut info);
-}
-
-fn short(name: &[u8], t: u64) {
-    let mut info = [0u8; 152914];
-    named(name, 1, t, &mut info);
-}
-
-fn long() {
-    let mut info = [0u8; 152916];
-    named(b"one byte long", 1, 4, &mut info);
+// A request that is refused, with an information of the length given.
+fn named(name: &[u8], n: u64, t: u64, length: usize) {
+    let mut info = sizes::large_space();
+    let a = length % 1412610;
+    made::fill(made::start(101), &mut info);
+    said::text(name);
+    part(n, t, &info[0..a]);
 }
 
 fn main() {
-    one();
-    eight();
-    outside(b"N 0 t 0", 0, 0);
-    outside(b"N 9 t 0", 9, 0);
-    outside(b"information of N 1 as N 2", 2, 0);
-    short(b"N 1 t 5 and one byte short", 5);
-    short(b"one byte short", 4);
-    long();
+    parts(1, 4);
+    parts(8, 39);
+    named(b"N 0 t 0", 0, 0, 152915);
+    named(b"N 9 t 0", 9, 0, 152915);
+    named(b"information of N 1 as N 2", 2, 0, 152915);
+    named(b"N 1 t 5 and one byte short", 1, 5, 152914);
+    named(b"one byte short", 1, 4, 152914);
+    named(b"one byte long", 1, 4, 152916);
 }

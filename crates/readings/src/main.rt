@@ -34,18 +34,18 @@ fn code(n: u64, capture: &mut [u8]) {
     code_from(n, &room, capture);
 }
 
+// The digest of the bytes that a seed makes, from one place to another.
+fn digest_of(seed: u64, from: usize, to: usize) -> u64 {
+    let b = to % 1412610;
+    if b < from {
+        return 0;
+    }
+    let mut room = sizes::large_space();
+    fill(seed, &mut room);
+    made::digest(&room[from..b])
+}
+
 // ---- a call
-
-fn say_both(info: &[u8], parity: &[u8]) {
-    said::digest(b" information ", info);
-    said::digest(b" parity ", parity);
-    said::text(b"\n");
-}
-
-fn say(r: Answer, info: &[u8], parity: &[u8]) {
-    said::outcome(b": ", r);
-    say_both(info, parity);
-}
 
 // What the buffers are full of before a call.
 fn before(info: &mut [u8], parity: &mut [u8]) {
@@ -53,18 +53,14 @@ fn before(info: &mut [u8], parity: &mut [u8]) {
     fill(997, parity);
 }
 
-fn before_in(info: &mut [u8], parity: &mut [u8]) {
-    before(info, parity);
-    say_both(info, parity);
+// Writes what that is, at the lengths given.
+fn say_before(info: usize, parity: usize) {
+    said::inputs(digest_of(998, 0, info), digest_of(997, 0, parity));
 }
 
-// Writes what they are full of, at the lengths given.
-fn say_before(info: usize, parity: usize) {
-    let mut i = sizes::large_space();
-    let mut p = sizes::small_space();
-    let a = info % 1412610;
-    let b = parity % 81922;
-    before_in(&mut i[0..a], &mut p[0..b]);
+fn say(r: Answer, info: &[u8], parity: &[u8]) {
+    said::outcome(b": ", r);
+    said::inputs(made::digest(info), made::digest(parity));
 }
 
 fn read_in(n: u64, m0: u64, capture: &[u8], info: &mut [u8], parity: &mut [u8]) {
@@ -88,19 +84,11 @@ fn read_stated(n: u64, m0: u64, capture: &[u8]) {
 }
 
 fn name(n: u64, what: &[u8]) {
-    said::number(b"N ", n);
+    said::frames(n);
     said::text(what);
 }
 
 // ---- damage
-
-// The word that has bit i only.
-fn bit(i: usize) -> [u8; 16] {
-    let mut v = NONE;
-    let k = i % 128;
-    v[k / 8] = 128 >> (k % 8);
-    v
-}
 
 // The word that has bits 0 and 1 only.
 fn two_bits() -> [u8; 16] {
@@ -111,7 +99,7 @@ fn two_bits() -> [u8; 16] {
 
 // The code word of the element that has only the bit of its super frame's bit p. A word that passes its checks still does with it added.
 fn sound(p: usize) -> [u8; 16] {
-    hamming::encode(bit(p % 119))
+    hamming::encode(damage::bit(p % 119))
 }
 
 // The word that holds bit p of super frame f.
@@ -174,16 +162,9 @@ fn undamaged(n: u64) {
     counted_from(n, 7 * (n % 9) + 1, 0, NONE, 0, NONE);
 }
 
-// One bit turned in each word.
-fn turn_in_all(capture: &mut [u8]) {
-    for w in 0..capture.len() / 16 {
-        damage::turn(capture, w, bit(w % 128 * 37 + 11));
-    }
-}
-
 fn all_in(n: u64, capture: &mut [u8]) {
     code(n, capture);
-    turn_in_all(capture);
+    damage::turn_in_all(capture);
     read_stated(n, first_number(n), capture);
 }
 
@@ -275,7 +256,7 @@ fn crc_twice(n: u64) {
 fn repaired_filler(n: u64) {
     name(n, b" last filler not zero, its only element bit flipped");
     let w = last_word(n);
-    damaged(n, w, sound(0), w, bit(0));
+    damaged(n, w, sound(0), w, damage::bit(0));
 }
 
 // Nothing guards the parity.
@@ -287,18 +268,11 @@ fn parity_turned(n: u64) {
 
 // ---- all of n super frames
 
-fn say_room(n: u64, room: &[u8])
-    requires { ⌜ 1412609 ≡ length (now room) ⌝ }
-{
+fn say_made(n: u64) {
     let a = sizes::information(n);
     let b = a + sizes::parity(n);
-    say_both(&room[0..a], &room[a..b]);
-}
-
-fn say_made(n: u64) {
-    let mut room = sizes::large_space();
-    fill(100 + n % 9, &mut room);
-    say_room(n, &room);
+    let seed = 100 + n % 9;
+    said::inputs(digest_of(seed, 0, a), digest_of(seed, a, b));
 }
 
 fn start(n: u64) {

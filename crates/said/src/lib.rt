@@ -7,6 +7,10 @@ pub fn text(s: &[u8]) {
     io::write_all(STDOUT_FILENO, s);
 }
 
+pub fn end_line() {
+    text(b"\n");
+}
+
 // A number in decimal, behind its name.
 pub fn number(name: &[u8], n: u64) {
     text(name);
@@ -17,6 +21,11 @@ pub fn number(name: &[u8], n: u64) {
 pub fn hex(name: &[u8], n: u64) {
     text(name);
     io::print_hex(STDOUT_FILENO, n, 16);
+}
+
+// How many super frames a call is about.
+pub fn frames(n: u64) {
+    number(b"N ", n);
 }
 
 // The digest of bytes, behind its name.
@@ -30,4 +39,18 @@ pub fn outcome(name: &[u8], a: Answer) {
     number(b"number ", a.number);
     number(b" place ", a.place);
     number(b" count ", a.count);
+}
+
+// Digests before and after a call, behind what they are of.
+pub fn change(name: &[u8], before: u64, after: u64) {
+    text(name);
+    hex(b" before ", before);
+    hex(b" after ", after);
+}
+
+// Digests of information and parity end a line.
+pub fn inputs(info: u64, parity: u64) {
+    hex(b" information ", info);
+    hex(b" parity ", parity);
+    end_line();
 }

@@ -1,18 +1,9 @@
 // Captures of every length with every edge of m0, from many seeds. All that a case needs is made by one generator from its seed.
 use answer::Answer;
 use made::Generator;
-ghost use mathlib.Core.Path.{_≡_};
-ghost use lib.ListN.{length};
-
-// For the parity of eight super frames. The contract says its length, so that nothing computes a list where it is lent.
-fn parity_8() -> [u8; 81920]
-    ensures { λ r. ⌜ 81920 ≡ length r ⌝ }
-{
-    [0u8; 81920]
-}
 
 fn name(n: u64, seed: u64, m0: u64) {
-    said::number(b"N ", n);
+    said::frames(n);
     said::number(b" seed ", seed);
     said::number(b" m0 ", m0);
 }
@@ -20,14 +11,7 @@ fn name(n: u64, seed: u64, m0: u64) {
 fn say_coded(r: Answer, capture: &[u8]) {
     said::outcome(b": ", r);
     said::digest(b" capture ", capture);
-    said::text(b"\n");
-}
-
-fn say_read(r: Answer, info: &[u8], parity: &[u8]) {
-    said::outcome(b" damaged: ", r);
-    said::digest(b" information ", info);
-    said::digest(b" parity ", parity);
-    said::text(b"\n");
+    said::end_line();
 }
 
 fn say_edit(block: u64, r: Answer, capture: u64, list: u64) {
@@ -35,7 +19,7 @@ fn say_edit(block: u64, r: Answer, capture: u64, list: u64) {
     said::outcome(b": ", r);
     said::hex(b" capture ", capture);
     said::hex(b" list ", list);
-    said::text(b"\n");
+    said::end_line();
 }
 
 fn edit_by(n: u64, block: u64, bits: &[u8], parity: &[u8], capture: &mut [u8]) {
@@ -56,20 +40,12 @@ fn edit(n: u64, g: Generator, capture: &mut [u8]) -> Generator {
     h
 }
 
-// The word that has bit i only.
-fn bit(i: usize) -> [u8; 16] {
-    let mut v = [0u8; 16];
-    let k = i % 128;
-    v[k / 8] = 128 >> (k % 8);
-    v
-}
-
 // Turns a bit of word w, in one of three words, and returns the generator as it then is.
 fn turn_some(g: Generator, capture: &mut [u8], w: usize) -> Generator {
     let first = made::step(g);
     let second = made::step(first);
     if made::below(first, 3) == 0 {
-        damage::turn(capture, w, bit(made::below(second, 128) as usize));
+        damage::turn(capture, w, damage::bit(made::below(second, 128) as usize));
     }
     second
 }
@@ -83,22 +59,17 @@ fn turn_all(g: Generator, capture: &mut [u8]) -> Generator {
 }
 
 fn read_into(n: u64, m0: u64, capture: &[u8], info: &mut [u8], parity: &mut [u8]) {
-    let r = capture::read(n, m0, capture, info, parity);
-    say_read(r, info, parity);
+    said::outcome(b" damaged: ", capture::read(n, m0, capture, info, parity));
+    said::inputs(made::digest(info), made::digest(parity));
 }
 
 // Into zeros.
 fn read(n: u64, m0: u64, capture: &[u8]) {
-    let k = (n % 9) as usize;
-    let mut info = space::info_8();
-    let mut parity = parity_8();
-    read_into(
-        n,
-        m0,
-        capture,
-        &mut info[0..152915 * k],
-        &mut parity[0..10240 * k],
-    );
+    let mut info = sizes::large_space();
+    let mut parity = sizes::small_space();
+    let a = sizes::information(n);
+    let b = sizes::parity(n);
+    read_into(n, m0, capture, &mut info[0..a], &mut parity[0..b]);
 }
 
 fn code_from(
@@ -116,17 +87,11 @@ fn code_from(
 }
 
 fn code(n: u64, m0: u64, g: Generator, capture: &mut [u8]) -> Generator {
-    let k = (n % 9) as usize;
-    let mut info = space::info_8();
-    let mut parity = parity_8();
-    code_from(
-        n,
-        m0,
-        g,
-        capture,
-        &mut info[0..152915 * k],
-        &mut parity[0..10240 * k],
-    )
+    let mut info = sizes::large_space();
+    let mut parity = sizes::small_space();
+    let a = sizes::information(n);
+    let b = sizes::parity(n);
+    code_from(n, m0, g, capture, &mut info[0..a], &mut parity[0..b])
 }
 
 fn hurt(n: u64, m0: u64, g: Generator, capture: &mut [u8]) -> Generator {
@@ -147,9 +112,9 @@ fn case(n: u64, seed: u64, m0: u64, capture: &mut [u8]) {
 }
 
 fn sized(n: u64, seed: u64, m0: u64) {
-    let k = (n % 9) as usize;
-    let mut capture = space::capture_8();
-    case(n, seed, m0, &mut capture[0..175616 * k + 7680]);
+    let mut capture = sizes::large_space();
+    let k = sizes::capture(n);
+    case(n, seed, m0, &mut capture[0..k]);
 }
 
 // The first and the last m0, and the one past it, which is refused; then those between, nine apart.

@@ -25,7 +25,7 @@ fn map(c: u64, f: u64, n: u64, groups: &[u8], window: &mut [u8]) {
 fn unmap(c: u64, f: u64, n: u64, window: &[u8], groups: &mut [u8]) {
     said::outcome(b" unmap: ", mapping::unmap(c, f, n, window, groups));
     said::digest(b" groups ", groups);
-    said::text(b"\n");
+    said::end_line();
 }
 
 fn window(
@@ -43,20 +43,10 @@ fn window(
     unmap(c, f, n, window, back);
 }
 
-// The data places among f .. f + n - 1: the first j places hold floor(j C / P) of them.
-fn data_places(c: u64, f: u64, n: u64) -> u64 {
-    let upto = (f % 20000 + n % 20000) * (c % 20000) / 10220;
-    let before = f % 20000 * (c % 20000) / 10220;
-    if upto < before {
-        return 0;
-    }
-    upto - before
-}
-
-// What stands before f is f - 1 places, and at most 80 places are mapped.
+// At most 80 places are mapped.
 fn sized(c: u64, f: u64, n: u64, g: Generator) {
-    let d = data_places(c, (f % 10221 + 10219) % 10220, n) % 81;
-    let size = ((257 * d + 1) / 2) as usize;
+    let d = sizes::groups(c, f, n) % 10282;
+    let k = sizes::window(n) % 10282;
     let mut groups = [0u8; 10281];
     let mut space = [90u8; 10281];
     let mut back = [60u8; 10281];
@@ -65,9 +55,9 @@ fn sized(c: u64, f: u64, n: u64, g: Generator) {
         f,
         n,
         g,
-        &mut groups[0..size],
-        &mut space[0..(257 * (n % 81) / 2) as usize],
-        &mut back[0..size],
+        &mut groups[0..d],
+        &mut space[0..k],
+        &mut back[0..d],
     );
 }
 

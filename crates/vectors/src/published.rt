@@ -5,7 +5,7 @@ use libc::STDOUT_FILENO;
 fn check_value() {
     let t = crc::table();
     said::hex(b"CRC of 123456789: ", crc::crc(&t, b"123456789") as u64);
-    said::text(b"\n");
+    said::end_line();
 }
 
 fn byte(x: u8) {
@@ -19,7 +19,7 @@ fn scrambler() {
     byte(w[0]);
     byte(w[1]);
     byte(w[2]);
-    said::text(b"\n");
+    said::end_line();
 }
 
 // Names the run of place j if it is stuff, and gives the place behind it, or 0 behind the last.
@@ -46,7 +46,7 @@ fn table_7_row(c: u64) {
             j = stuff_run(c, j);
         }
     }
-    said::text(b"\n");
+    said::end_line();
 }
 
 fn table_7() {
@@ -81,7 +81,7 @@ fn table_12_row(n: u8) {
     level(s.xq);
     level(s.yi);
     level(s.yq);
-    said::text(b"\n");
+    said::end_line();
 }
 
 fn table_12() {

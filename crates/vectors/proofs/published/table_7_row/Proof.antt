@@ -5,10 +5,10 @@ use Rattle.vectors.proofs.published.table_7_row.Statement.{statement}
 use Rattle.vectors.proofs.published.table_7_row.Tie as tie
 
 abbrev Inv-loop : tie.InvT-loop
-Inv-loop c j₀ i₀ t6 j i = i ≤ 12
+Inv-loop c j₀ i₀ j i = i ≤ 12
 
 abbrev μ-loop : tie.MeasureT-loop
-μ-loop c j₀ i₀ t6 j i = 12 - i
+μ-loop c j₀ i₀ j i = 12 - i
 
 slice-aggregate-number : tie.Need-slice-aggregate-number Inv-loop μ-loop
 slice-aggregate-number c = search needs
@@ -37,11 +37,8 @@ loop-less c = search needs
 loop-again : tie.Need-loop-again Inv-loop μ-loop
 loop-again c = search needs
 
-slice-aggregate-text-2 : tie.Need-slice-aggregate-text-2 Inv-loop μ-loop
-slice-aggregate-text-2 c = search needs
-
-text-requires-2 : tie.Need-text-requires-2 Inv-loop μ-loop
-text-requires-2 c κs = search needs
+end-line-requires : tie.Need-end-line-requires Inv-loop μ-loop
+end-line-requires c κs = search needs
 
 returns : tie.Need-returns Inv-loop μ-loop
 returns c = search needs
@@ -61,6 +58,5 @@ table-7-row-spec =
     add-i
     loop-less
     loop-again
-    slice-aggregate-text-2
-    text-requires-2
+    end-line-requires
     returns)

@@ -1,3 +1,0 @@
--- The laws of `space`.
-pub mod Zeros
-pub mod Unique
