@@ -368,8 +368,7 @@ static void reading(const char *label, uint64_t n, uint64_t m0, const uint8_t *c
 {
     uint8_t *info = seeded(998, il), *parity = seeded(997, pl);
     zr_answer a = read_capture(n, m0, capture, cl, info, il, parity, pl);
-    printf("%s: " SHOWN "\n", label, NUMBERS(a));
-    both_digests(label, info, il, parity, pl);
+    printf("%s: " SHOWN " information %016lx parity %016lx\n", label, NUMBERS(a), digest(info, il), digest(parity, pl));
     free(info);
     free(parity);
 }
@@ -389,7 +388,7 @@ static void say(const char *label, uint64_t m0)
 static void turned(size_t t, size_t bit)
 {
     turn_in_block(damaged, t, bit);
-    say(LABEL("N %lu bit %lu of block %lu turned", whole.n, bit, t), whole.m0);
+    say(LABEL("N %lu turned bit %lu of block %lu", whole.n, bit, t), whole.m0);
 }
 
 static void readings_of(uint64_t n)
@@ -399,7 +398,6 @@ static void readings_of(uint64_t n)
     size_t last_word = ZR400_WORDS(n) - 1, last_block = 5 * n - 1, first_pad = 1305430, last_pad = 1306143;
     both_digests(LABEL("N %lu coded from", n), whole.info, whole.il, whole.parity, whole.pl);
     both_digests(LABEL("N %lu buffers before", n), seeded(998, whole.il), whole.il, seeded(997, whole.pl), whole.pl);
-    say(LABEL("N %lu undamaged", n), whole.m0);
     for (size_t w = 0; w <= last_word; w++)
         flip(damaged, w, (w * 37 + 11) % 128);
     say(LABEL("N %lu one flip in every word", n), whole.m0);
@@ -410,16 +408,16 @@ static void readings_of(uint64_t n)
     }
     for (size_t w = 0; w <= last_word; w += last_word) {
         put_nonzero(damaged, w);
-        say(LABEL("N %lu filler word %lu not zero", n, w), whole.m0);
+        say(LABEL("N %lu filler not zero in word %lu", n, w), whole.m0);
     }
     turned(0, 244701);
     turned(last_block, 244696);
     turned(0, 0);
     turned(last_block, 244695);
     turn(damaged, 0, first_pad);
-    say(LABEL("N %lu bit %lu of super frame 0 turned", n, first_pad), whole.m0);
+    say(LABEL("N %lu turned bit %lu of super frame 0", n, first_pad), whole.m0);
     turn(damaged, n - 1, last_pad);
-    say(LABEL("N %lu bit %lu of super frame %lu turned", n, last_pad, n - 1), whole.m0);
+    say(LABEL("N %lu turned bit %lu of super frame %lu", n, last_pad, n - 1), whole.m0);
     turn_in_block(damaged, last_block, 244696);
     turn_in_block(damaged, 0, 0);
     say(LABEL("N %lu last MBAS and first CRC wrong", n), whole.m0);
@@ -438,6 +436,7 @@ static void readings_of(uint64_t n)
     say(LABEL("N %lu last filler not zero, its only element bit flipped", n), whole.m0);
     turn_in_block(damaged, last_block, 261085);
     say(LABEL("N %lu last parity bit turned", n), whole.m0);
+    say(LABEL("N %lu undamaged", n), whole.m0);
     say(LABEL("N %lu m0 one more", n), whole.m0 + 1);
 }
 
@@ -474,8 +473,7 @@ static void edited(const char *name, uint64_t n, uint64_t block, const uint8_t *
 {
     uint64_t *list = seeded_list(ll);
     zr_answer a = edit(n, block, bits, bl, parity, pl, capture, cl, list, ll);
-    printf("%s: " SHOWN "\n", name, NUMBERS(a));
-    printf("%s: capture %016lx list %016lx\n", name, digest(capture, cl), digest_numbers(list, ll));
+    printf("%s: " SHOWN " capture %016lx list %016lx\n", name, NUMBERS(a), digest(capture, cl), digest_numbers(list, ll));
     free(list);
 }
 
@@ -530,25 +528,24 @@ static struct coded *coded_once(uint64_t n)
     return &of[n];
 }
 
+/* A block outside its set, edited as block 6 would be. */
+static void edit_outside(uint64_t n, uint64_t block)
+{
+    struct coded *c = coded_once(n == 0 || n == 9 ? 1 : n);
+    edited(LABEL("N %lu block %lu", n, block), n, block, edit_client(6), 33, seeded(307, 2048), 2048, copied(c->capture, c->cl),
+           c->cl, LIST);
+}
+
 static void granted_edits(void)
 {
     static const uint64_t blocks[8][2] = {{1, 0}, {1, 6}, {1, 951}, {1, 952}, {1, 4759}, {2, 4759}, {2, 4760}, {8, 38079}};
     for (int k = 0; k < 8; k++) {
         struct coded *c = coded_once(blocks[k][0]);
-        if (k == 0 || blocks[k - 1][0] != c->n)
+        if (k == 0 || blocks[k - 1][0] != c->n) {
             printf("N %lu coded: %016lx\n", c->n, digest(c->capture, c->cl));
+            edit_outside(c->n, 4760 * c->n);
+        }
         granted_edit(c, blocks[k][1]);
-    }
-}
-
-static void edits_outside(const uint8_t *bits, const uint8_t *parity)
-{
-    static const uint64_t outside[5][2] = {{1, 4760}, {8, 38080}, {0, 0}, {9, 0}, {1, UINT64_MAX}};
-    for (int k = 0; k < 5; k++) {
-        struct coded *c = coded_once(outside[k][0] == 8 ? 8 : 1);
-        uint8_t *capture = copied(c->capture, c->cl);
-        edited(LABEL("N %lu block %lu", outside[k][0], outside[k][1]), outside[k][0], outside[k][1], bits, 33, parity, 2048,
-               capture, c->cl, LIST);
     }
 }
 
@@ -602,7 +599,9 @@ static void edits(void)
     uint8_t *bits = edit_client(6), *parity = seeded(307, 2048);
     printf("list before: %016lx\n", digest_numbers(seeded_list(LIST), LIST));
     granted_edits();
-    edits_outside(bits, parity);
+    edit_outside(0, 0);
+    edit_outside(9, 0);
+    edit_outside(1, UINT64_MAX);
     edits_of_wrong_buffers(bits, parity);
     edits_of_damage(bits, parity);
     edits_of_never_coded(6);
