@@ -1,5 +1,4 @@
 -- What a public entry point must answer and what it must leave in lent memory. Assumes nothing: these are definitions.
-use Prim.Native.Nat.{ℕ}
 use mathlib.Core.Bool.{cond}
 use mathlib.Core.Path.{_≡_}
 use lib.Dec.{eqb}

@@ -1,6 +1,6 @@
 -- Document 01, "Numbers handed back": "If several apply, the smallest number, then the smallest place. .. A refusal .. count is 0."
 -- A call's table is the list of its rows, in the order of their numbers. Assumes nothing: these are definitions.
-use Prim.Native.Nat.{ℕ, zero, suc, _≤_, _<_}
+use Prim.Native.Nat.{ℕ, suc, _≤_, _<_}
 use mathlib.Core.Bool.{Bool, true, false, cond, _&&_, _||_}
 use mathlib.Core.Path.{_≡_}
 use mathlib.Core.Logic.{_⊎_}

@@ -1,17 +1,15 @@
 -- An argument read byte by byte is the number that its digits are. Assumes nothing.
-use Prim.Native.Nat.{ℕ, zero, suc, _+_, _-_, _*_, _≤_, _<_, min}
-use mathlib.Core.Bool.{Bool, true, false, cond, not, _&&_, _||_}
+use Prim.Native.Nat.{ℕ, zero, suc, _+_, _-_, _*_, min}
+use mathlib.Core.Bool.{Bool, true, false, cond, not, _&&_}
 use mathlib.Core.Path.{_≡_, refl, sym, ap, ap₂, _∙_}
 use mathlib.Core.List.{List}
 use native.Mathlib.Omega.{arith}
 use borrow.Author.Tests.{eq-eqb, ne-eqb, le-ltb}
-use lib.Dec.{ltb, eqb}
 use lib.ListN.{length, getD}
 use Rattle.bits.specs.Loops.{upto}
-use Rattle.count_line.specs.Lines.{isDigit, digitAt, allDigits, decimal}
+use Rattle.count_line.specs.Lines.{isDigit, allDigits, decimal}
 use Rattle.count_line.proofs.Digits.{digits-none, digits-more, decimal-none, decimal-more}
 use Rattle.arguments.specs.Numbers.{most, numberOf, stepOf, stepAt}
-use Rattle.arguments.specs.declared.Number.{Number}
 use Rattle.arguments.specs.declared.Number.the-variants.{Is, Not}
 
 -- what was read: d says whether all bytes were digits, and v is their number

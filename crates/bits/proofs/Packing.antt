@@ -2,11 +2,11 @@
 use Prim.Native.Nat.{ℕ, zero, suc, _+_, _-_, _*_, _/_, _%_, _^_, _≤_, _<_}
 use mathlib.Core.Path.{_≡_, refl, sym, ap, _∙_}
 use mathlib.Core.List.{List}
-use native.Mathlib.Nat.{add-zero, mul-comm, zero-add, div-eq-of-lt, mod-lt, mul-add-div, mul-add-mod-self-left, mod-eq-of-lt, sub-self, div-one, div-lt-iff-lt-mul, div-add-mod, zero-mul, zero-div, mul-le-mul-left, mul-add, mul-one, add-comm, add-assoc}
+use native.Mathlib.Nat.{add-zero, mul-comm, div-eq-of-lt, mod-lt, mul-add-div, mul-add-mod-self-left, mod-eq-of-lt, div-lt-iff-lt-mul, div-add-mod, zero-mul, zero-div, mul-le-mul-left, mul-add, mul-one, add-comm, add-assoc}
 use native.Mathlib.Omega.{arith}
 use lib.ListN.{length, getD, take, drop, replicate, List·getD-eq-default}
 use lib.Seq.{getD-take, getD-drop}
-use Rattle.bits.specs.Bits.{tabulate, num, digit, bitOf, packs, from, Bits}
+use Rattle.bits.specs.Bits.{num, digit, bitOf, packs, from, Bits}
 use Rattle.bits.proofs.Lists.{length-tabulate, getD-tabulate, tabulate-ext, tabulate-getD}
 use Rattle.bits.proofs.Numbers.{num-ext, num-split, num-front, num-back, digit-num, digit-lt, num-is}
 

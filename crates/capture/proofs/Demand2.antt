@@ -1,36 +1,36 @@
 -- DEMAND 2: one to eight super frames, coded and flushed, read back to every client and parity bit even with one flipped bit in each word,
 -- and the count of such words is exact. Assumes nothing.
-use Prim.Native.Nat.{ℕ, _+_, _-_, _*_, _/_, _%_, _^_, _≤_, _<_}
-use mathlib.Core.Bool.{Bool, true, false, cond, not, _&&_, and-false}
-use mathlib.Core.Path.{_≡_, refl, sym, ap, ap₂, _∙_}
+use Prim.Native.Nat.{ℕ, _+_, _-_, _*_, _^_, _<_}
+use mathlib.Core.Bool.{Bool, true, false, cond, not, _&&_}
+use mathlib.Core.Path.{_≡_, refl, sym, ap, _∙_}
 use mathlib.Core.List.{List, [], _∷_}
 use native.Mathlib.Omega.{arith}
 use borrow.Author.Tests.{ltb-true, eq-eqb, ne-eqb}
 use lib.Dec.{ltb, eqb}
 use lib.ListN.{length, replicate}
-use Rattle.bits.specs.Bits.{num, digit, Bits, Bytes}
+use Rattle.bits.specs.Bits.{num, Bits}
 use Rattle.bits.specs.Loops.{count}
 use Rattle.bits.proofs.Numbers.{num-is, num-zero}
 use Rattle.bits.proofs.Counting.{count-ext}
-use Rattle.answer.specs.Numbers.{outsideSet, wrongLength, beyondRepair}
-use Rattle.answer.specs.Rows.{Row, done, answerOf, whole, buffers}
+use Rattle.answer.specs.Numbers.{wrongLength}
+use Rattle.answer.specs.Rows.{Row, done, answerOf, buffers}
 use Rattle.answer.specs.declared.Answer.{Answer}
 use Rattle.answer.proofs.Table.{row-none, row-buffers, inTurn}
 use Rattle.answer.proofs.Meets.{written-done}
 use Rattle.crc.specs.Crc.{crcOf}
 use Rattle.crc.proofs.Changes.{crc-ext, crc-lt}
-use Rattle.hamming.specs.Code.{checksOf, turn, coded}
+use Rattle.hamming.specs.Code.{checksOf, turn}
 use Rattle.hamming.specs.Repair.{repairOf, numberOf}
 use Rattle.hamming.specs.declared.Repaired.{Repaired}
-use Rattle.hamming.proofs.Words.{coded-long, coded-checks}
+use Rattle.hamming.proofs.Words.{coded-checks}
 use Rattle.hamming.proofs.Turning.{turn-long}
 use Rattle.hamming.proofs.Repairs.{none-kept, one-seen, one-repaired}
-use Rattle.line.specs.Sizes.{infoBits, crcBits, mbasBits, mbasFrom, parityFrom, parityBits, fecBits, fecBlocks, padFrom, padBits, infoLength, parityLength, captureLength, words}
-use Rattle.line.specs.Captures.{superAllowed, wrong}
-use Rattle.line.specs.Fec.{mbasAllowed, mbasOf, infoBit, blockCrc, fecBit}
+use Rattle.line.specs.Sizes.{infoBits, crcBits, mbasBits, mbasFrom, parityFrom, fecBits, fecBlocks, padFrom, padBits, infoLength, parityLength, captureLength, words}
+use Rattle.line.specs.Captures.{wrong}
+use Rattle.line.specs.Fec.{mbasOf, infoBit, blockCrc, fecBit}
 use Rattle.line.specs.Frames.{superOf, elementOf, infoOf, parityOf}
 use Rattle.line.specs.Slots.{holds, slotBit}
-use Rattle.line.specs.Words.{laid, wordIn, wordsOf, superIn, fecIn}
+use Rattle.line.specs.Words.{wordIn, wordsOf, superIn, fecIn}
 use Rattle.line.proofs.FecLaws.{mbas-lt, info-bits, fec-info, fec-crc, fec-mbas, fec-parity, fec-bits, info-back, parity-back}
 use Rattle.line.proofs.FrameLaws.{super-pad}
 use Rattle.line.proofs.WordLaws.{length-laid, word-laid}

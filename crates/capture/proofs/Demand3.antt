@@ -1,6 +1,6 @@
 -- DEMAND 3: editing one client block with its FEC block's parity equals coding the edited input afresh, byte for byte. Assumes nothing.
 use Prim.Native.Nat.{ℕ, _+_, _-_, _*_, _/_, _%_, _≤_, _<_}
-use mathlib.Core.Bool.{Bool, true, false, cond, not, _&&_, _||_, and-false}
+use mathlib.Core.Bool.{Bool, true, false, cond, _&&_, _||_, and-false}
 use mathlib.Core.Path.{_≡_, refl, sym, ap, ap₂, _∙_}
 use mathlib.Core.List.{List}
 use native.Mathlib.Decide.{ℕ-discrete}
@@ -8,33 +8,29 @@ use native.Mathlib.Omega.{arith}
 use borrow.Author.Tests.{lt-ltb, le-ltb, le-leb, lt-leb, eq-eqb, ne-eqb}
 use lib.Arith.{lt-of-le-ne}
 use lib.Dec.{ltb, leb, eqb}
-use lib.ListN.{length, getD}
-use Rattle.bits.specs.Bits.{num, digit, bitOf, bitAt, pack, added, Bits, Bytes}
+use lib.ListN.{getD}
+use Rattle.bits.specs.Bits.{digit, bitOf, bitAt, Bits}
 use Rattle.bits.proofs.Common.{by-bound, clash}
 use Rattle.bits.proofs.Lists.{getD-tabulate}
-use Rattle.bits.proofs.Numbers.{digit-lt}
 use Rattle.bits.proofs.Packing.{bitOf-lt, bitOf-packs}
 use Rattle.bits.proofs.Xor.{digit-xor}
-use Rattle.crc.specs.Crc.{remOf, crcOf}
 use Rattle.crc.proofs.Linear.{rem-ext}
 use Rattle.crc.proofs.Changes.{crc-ext, crc-change}
 use lib.Bits.{bitXor}
 use Rattle.scrambler.specs.Scrambler.{o}
-use Rattle.hamming.specs.Code.{coded}
 use Rattle.hamming.proofs.Words.{coded-ext}
-use Rattle.line.specs.Sizes.{blockBits, clientBlocks, infoBits, crcBits, mbasBits, parityBits, mbasFrom, parityFrom, parityBytes, fecBits, fecBlocks, padFrom, elementBits, superElements, fecElements, infoLength, parityLength, words}
-use Rattle.line.specs.Fec.{mbasOf, fields, infoBit, parityBit, blockCrc, fecBit}
+use Rattle.line.specs.Sizes.{blockBits, clientBlocks, infoBits, crcBits, mbasBits, parityBits, mbasFrom, parityFrom, parityBytes, fecBits, fecBlocks, elementBits, superElements, fecElements, infoLength, parityLength, words}
+use Rattle.line.specs.Fec.{fields, infoBit, parityBit, blockCrc, fecBit}
 use Rattle.line.specs.Frames.{superOf, elementOf}
 use Rattle.line.specs.Slots.{elementIn, holds, slotBit}
-use Rattle.line.specs.Words.{laid, wordIn, wordsOf, fecIn}
+use Rattle.line.specs.Words.{wordIn, wordsOf, fecIn}
 use Rattle.line.proofs.FecLaws.{fields-info, fields-crc, fields-mbas, fields-parity, fields-all, fec-info, fec-crc, fec-mbas, fec-parity, fec-bits, info-bits}
-use Rattle.line.proofs.FrameLaws.{element-at, super-pad}
+use Rattle.line.proofs.FrameLaws.{super-pad}
 use Rattle.line.proofs.SlotLaws.{held, held-bit, filler-bit}
 use Rattle.line.proofs.WordLaws.{laid-ext, word-laid}
 use Rattle.coder.specs.Code.{captureOf}
 use Rattle.editor.specs.Edit.{fecOf, blockFrom, inBlock, replaced, change, crcChange, newCrc, editedBits, editedFec, touched, elementFec, elementLocal, listed, editedWord, editedCapture}
-use Rattle.editor.proofs.Touching.{block-in, block-before, block-past, Touch}
-use Rattle.editor.proofs.Listing.{Holding, holding-listed, local-lt}
+use Rattle.editor.proofs.Listing.{holding-listed, local-lt}
 use Rattle.editor.proofs.Remaking.{element-of}
 use Rattle.editor.proofs.Changing.{change-bits}
 use Rattle.capture.specs.Edits.{newInfo, newParity}

@@ -1,29 +1,27 @@
 -- Demand 3 whole, and what follows from demands 2 and 3: an undamaged capture counts nothing, another first number is refused, and an edited
 -- capture reads back to the edited input. Assumes nothing.
-use Prim.Native.Nat.{ℕ, zero, suc, _+_, _-_, _*_, _/_, _%_, _^_, _≤_, _<_}
-use mathlib.Core.Bool.{Bool, true, false, cond, not, _&&_}
-use mathlib.Core.Path.{_≡_, refl, sym, ap, ap₂, _∙_}
+use Prim.Native.Nat.{ℕ, zero, suc, _-_, _<_}
+use mathlib.Core.Bool.{Bool, true, false, not, _&&_}
+use mathlib.Core.Path.{_≡_, refl, sym, ap, _∙_}
 use mathlib.Core.List.{List, [], _∷_, _++_}
 use native.Mathlib.Omega.{arith}
 use borrow.Author.Tests.{lt-ltb, ltb-true, eq-eqb, ne-eqb}
-use lib.Dec.{ltb, eqb}
+use lib.Dec.{eqb}
 use lib.ListN.{length, getD, drop}
 use Rattle.bits.specs.Bits.{num}
 use Rattle.bits.specs.Loops.{count}
-use Rattle.bits.proofs.Common.{and-left, and-right}
-use Rattle.bits.proofs.Numbers.{num-is}
-use Rattle.answer.specs.Numbers.{allDone, wrongLength, spareBit, wrongMbas}
+use Rattle.answer.specs.Numbers.{wrongLength, spareBit, wrongMbas}
 use Rattle.answer.specs.Rows.{Row, done, refused, answerOf, buffers}
 use Rattle.answer.specs.declared.Answer.{Answer}
 use Rattle.answer.proofs.Table.{row-none, row-at, row-buffers, inTurn}
 use Rattle.answer.proofs.Meets.{written-done}
 use Rattle.hamming.specs.Code.{checksOf}
-use Rattle.line.specs.Sizes.{mbasBits, mbasFrom, parityBytes, fecBlocks, infoLength, parityLength, captureLength, words}
-use Rattle.line.specs.Captures.{superAllowed, wrong}
+use Rattle.line.specs.Sizes.{mbasBits, mbasFrom, parityBytes, infoLength, parityLength, captureLength, words}
+use Rattle.line.specs.Captures.{wrong}
 use Rattle.line.specs.Fec.{mbasAllowed, mbasOf, fecBit}
-use Rattle.line.specs.Words.{wordAt, wordIn, wordsOf, laid, fecIn}
+use Rattle.line.specs.Words.{wordAt, wordIn, wordsOf, fecIn}
 use Rattle.line.proofs.CaptureLaws.{super-frames}
-use Rattle.line.proofs.WordLaws.{length-laid, laid-ext, laid-words}
+use Rattle.line.proofs.WordLaws.{length-laid, laid-words}
 use Rattle.coder.specs.Code.{captureOf}
 use Rattle.reader.specs.Read.{repaired, isSeen, mbasDiffers, readRows, readAnswer}
 use Rattle.editor.specs.Edit.{blocksOf, blockBytes, listLength, listed, listOf, editedCapture, spareSet, fails, editRows, editAnswer, editLeaves}
@@ -31,7 +29,7 @@ use Rattle.editor.proofs.Listing.{Holding, listed-holding, holding-listed}
 use Rattle.editor.proofs.Promises.{Lists, list-is, byte-kept}
 use Rattle.capture.specs.Damage.{Input, Choice, chosen, hurt, damaged, howMany}
 use Rattle.capture.specs.Edits.{EditInput, newInfo, newParity}
-use Rattle.capture.proofs.Demand2.{ReadBack, demand-2, clean, no-4, no-5, block-read, mbas-read, lengths-right, none-left, right}
+use Rattle.capture.proofs.Demand2.{ReadBack, demand-2, clean, no-4, no-5, mbas-read, lengths-right, none-left, right}
 use Rattle.capture.proofs.Demand3.{coded-words, edit-is-coding}
 
 -- ---- demand 3

@@ -1,14 +1,13 @@
 -- The road back: from the words of a coded capture to its FEC blocks. Assumes nothing.
-use Prim.Native.Nat.{ℕ, _+_, _-_, _*_, _/_, _%_, _≤_, _<_}
-use mathlib.Core.Path.{_≡_, refl, sym, ap, _∙_}
+use Prim.Native.Nat.{ℕ, _+_, _*_, _/_, _<_}
+use mathlib.Core.Path.{_≡_, ap, _∙_}
 use mathlib.Core.List.{List}
 use native.Mathlib.Omega.{arith}
 use lib.ListN.{length}
 use Rattle.bits.specs.Bits.{bitAt, Bits}
-use Rattle.hamming.specs.Code.{coded}
 use Rattle.hamming.proofs.Words.{coded-bit, coded-long}
-use Rattle.line.specs.Sizes.{fecBits, fecBlocks, padFrom, superBits, elementBits, superElements, words}
-use Rattle.line.specs.Frames.{superOf, elementOf, superFrom}
+use Rattle.line.specs.Sizes.{fecBits, fecBlocks, superBits, elementBits, superElements, words}
+use Rattle.line.specs.Frames.{superOf, elementOf}
 use Rattle.line.specs.Slots.{slotOf, slotBit}
 use Rattle.line.specs.Words.{wordsOf, elementFrom, superIn, fecIn}
 use Rattle.line.proofs.FrameLaws.{element-bits, super-back, super-bits, fec-back}

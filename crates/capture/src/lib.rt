@@ -26,7 +26,7 @@ pub fn information_answer(n: u64, t: u64, info: &[u8]) -> Answer
     if !line::super_allowed(n) {
         return answer::refuse(answer::OUTSIDE_SET, 0);
     }
-    if 5 * n <= t {
+    if line::FEC_BLOCKS as u64 * n <= t {
         return answer::refuse(answer::OUTSIDE_SET, 0);
     }
     if info.len() as u64 != line::SUPER_INFO_BYTES as u64 * n {

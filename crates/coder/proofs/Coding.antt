@@ -1,27 +1,26 @@
 -- From an element to its word, from words to their group, from groups to the capture. Assumes nothing.
-use Prim.Native.Nat.{ℕ, _+_, _-_, _*_, _/_, _%_, _^_, _≤_, _<_}
+use Prim.Native.Nat.{ℕ, _+_, _*_, _/_, _%_, _<_}
 use mathlib.Core.Bool.{true, false}
-use mathlib.Core.Path.{_≡_, refl, sym, ap, ap₂, _∙_}
+use mathlib.Core.Path.{_≡_, sym, ap, ap₂, _∙_}
 use mathlib.Core.List.{List, []}
 use native.Mathlib.Omega.{arith}
 use lib.ListN.{getD, replicate}
-use Rattle.bits.specs.Bits.{tabulate, bitOf, bitAt, pack, from, added, Bits}
+use Rattle.bits.specs.Bits.{tabulate, bitAt, pack, from, added}
 use Rattle.bits.proofs.Lists.{getD-tabulate, tabulate-ext}
 use Rattle.bits.proofs.Packing.{bitOf-lt, bitOf-packs}
-use Rattle.hamming.specs.Code.{coded, wordOf}
 use Rattle.hamming.specs.Lent.{byteTable, tailTable, wordBy}
 use Rattle.hamming.proofs.Words.{coded-ext, coded-zero}
 use Rattle.hamming.proofs.Tabled.{by-word}
 use Rattle.scrambler.specs.Scrambler.{o}
 use Rattle.scrambler.proofs.Rule.{o-lt}
 use Rattle.symbols.specs.Group.{symbolAt, laidByte, laidGroup}
-use Rattle.line.specs.Sizes.{elementBits, superElements, superBytes, captureLength, words}
+use Rattle.line.specs.Sizes.{elementBits, superElements, superBytes}
 use Rattle.line.specs.Frames.{superOf, elementOf}
 use Rattle.line.specs.Slots.{elementIn, holds, slotBit}
 use Rattle.line.specs.Words as place
-use Rattle.line.specs.Words.{wordAt, laid, wordsOf}
+use Rattle.line.specs.Words.{wordAt, wordsOf}
 use Rattle.line.proofs.SlotLaws.{filler-bit, held-bit}
-use Rattle.coder.specs.Parts.{Agree, plainBit, entry, Ready}
+use Rattle.coder.specs.Parts.{Agree, plainBit, entry}
 
 -- ---- words
 

@@ -1,13 +1,13 @@
 -- The code's chain of tests is the table, and what a granted call has shown. Assumes nothing.
 use Prim.Native.Nat.{ℕ, _<_}
-use mathlib.Core.Bool.{Bool, true, false, cond, not, _&&_}
-use mathlib.Core.Path.{_≡_, refl, sym, ap, _∙_}
+use mathlib.Core.Bool.{cond, not, _&&_}
+use mathlib.Core.Path.{_≡_, sym, ap, _∙_}
 use mathlib.Core.List.{List, [], _∷_}
 use borrow.Author.Tests.{not-false, eqb-true}
 use lib.Dec.{eqb}
 use lib.ListN.{length}
 use Rattle.answer.specs.Numbers.{allDone, outsideSet, wrongLength}
-use Rattle.answer.specs.Rows.{Row, done, refused, answerOf, whole, bufferPlace, buffers}
+use Rattle.answer.specs.Rows.{done, refused, answerOf, bufferPlace, buffers}
 use Rattle.answer.specs.declared.Answer.{Answer}
 use Rattle.answer.proofs.Table.{row-whole, row-buffers, inTurn, guard, two-tests}
 use Rattle.line.specs.Sizes.{infoLength, parityLength, captureLength, words}
@@ -15,7 +15,7 @@ use Rattle.line.specs.Captures.{superAllowed, wrong}
 use Rattle.line.specs.Fec.{mbasAllowed}
 use Rattle.line.proofs.CaptureLaws.{super-frames}
 use Rattle.coder.specs.Code.{codeRows, codeAnswer}
-use Rattle.coder.specs.Parts.{Granted, judged}
+use Rattle.coder.specs.Parts.{judged}
 
 pub judged-is : (N m0 : ℕ) (info par cap : List ℕ) → judged N m0 (length info) (length par) (length cap) ≡ codeAnswer N m0 info par cap
 unfolding judged codeAnswer codeRows wrong inTurn answerOf

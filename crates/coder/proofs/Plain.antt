@@ -1,19 +1,19 @@
 -- Which bits an element holds before it is scrambled: pad, information, CRC and MBAS, or parity. Assumes nothing.
-use Prim.Native.Nat.{ℕ, _+_, _-_, _*_, _/_, _%_, _^_, _≤_, _<_}
-use mathlib.Core.Path.{_≡_, refl, sym, ap, _∙_}
+use Prim.Native.Nat.{ℕ, _+_, _-_, _*_, _/_, _%_, _≤_, _<_}
+use mathlib.Core.Path.{_≡_, sym, ap, _∙_}
 use mathlib.Core.List.{List}
 use native.Mathlib.Nat.{add-assoc}
 use native.Mathlib.Omega.{arith}
-use lib.ListN.{length, getD, take, drop, replicate, length-take, length-drop, List·getD-eq-default}
+use lib.ListN.{length, take, drop, replicate, length-take, length-drop, List·getD-eq-default}
 use lib.Seq.{getD-take, getD-drop}
-use Rattle.bits.specs.Bits.{digit, bitOf, bitAt, pack, from, Bits, Bytes}
+use Rattle.bits.specs.Bits.{bitAt, pack, from, Bits, Bytes}
 use Rattle.bits.proofs.Packing.{bitOf-lt, bitOf-packs, bitOf-part, bitOf-zeros}
 use Rattle.bits.proofs.Common.{by-bound}
 use Rattle.crc.specs.Crc.{crcOf}
 use Rattle.crc.specs.ByBytes.{entries, crcBy}
 use Rattle.crc.proofs.Changes.{crc-ext}
 use Rattle.crc.proofs.Bytewise.{bytes-crc}
-use Rattle.line.specs.Sizes.{infoBits, crcBits, mbasBits, mbasFrom, parityBits, parityFrom, fecBits, elementBits, superElements, fecElements, fecBlocks, padFrom}
+use Rattle.line.specs.Sizes.{infoBits, mbasFrom, parityBits, parityFrom, fecBits, elementBits, superElements, fecElements, infoBytes, infoElements}
 use Rattle.line.specs.Fec.{fecBit, infoBit, parityBit, blockCrc, mbasOf}
 use Rattle.line.specs.Frames.{superOf}
 use Rattle.line.proofs.FecLaws.{fec-info, fec-crc, fec-mbas, fec-parity}
@@ -40,7 +40,7 @@ plain-fec F e i h l =
 -- ---- the three kinds of elements of FEC block t
 
 module _ (m0 : ℕ) (info par : List ℕ) (t : ℕ) where
-  pub held-info : (m i : ℕ) → m < 2056 → i < elementBits → fecBit m0 info par t (elementBits * m + i) ≡ from (bitAt info) (infoBits * t + elementBits * m) i
+  pub held-info : (m i : ℕ) → m < infoElements → i < elementBits → fecBit m0 info par t (elementBits * m + i) ≡ from (bitAt info) (infoBits * t + elementBits * m) i
   unfolding infoBit
   held-info m i h l = fec-info m0 info par t (elementBits * m + i) (omega arith) ∙ ap (bitAt info) (sym (add-assoc (infoBits * t) (elementBits * m) i))
 
@@ -65,12 +65,12 @@ module _ (m0 : ℕ) (info par : List ℕ) (t : ℕ) where
       let q : 38 + (i - 38) ≡ i = omega arith in
       ap (fecBit m0 info par t) p ∙ after (i - 38) ∙ ap tail q))
 
-  pub held-parity : (m i : ℕ) → 2056 < m → fecBit m0 info par t (elementBits * m + i) ≡ from (bitAt par) (parityBits * t + (elementBits * (m - 2056) - 38)) i
+  pub held-parity : (m i : ℕ) → infoElements < m → fecBit m0 info par t (elementBits * m + i) ≡ from (bitAt par) (parityBits * t + (elementBits * (m - infoElements) - 38)) i
   unfolding parityBit
   held-parity m i h =
-      let p : elementBits * m + i ≡ parityFrom + (elementBits * (m - 2056) - 38 + i) = omega arith in
-      ap (fecBit m0 info par t) p ∙ fec-parity m0 info par t (elementBits * (m - 2056) - 38 + i)
-      ∙ ap (bitAt par) (sym (add-assoc (parityBits * t) (elementBits * (m - 2056) - 38) i))
+      let p : elementBits * m + i ≡ parityFrom + (elementBits * (m - infoElements) - 38 + i) = omega arith in
+      ap (fecBit m0 info par t) p ∙ fec-parity m0 info par t (elementBits * (m - infoElements) - 38 + i)
+      ∙ ap (bitAt par) (sym (add-assoc (parityBits * t) (elementBits * (m - infoElements) - 38) i))
 
 -- ---- from what a callee packed
 
@@ -90,22 +90,22 @@ module _ (m0 : ℕ) (info par r : List ℕ) (e : ℕ) (no-pad : e % superElement
   abbrev F : ℕ → ℕ → ℕ
   F = fecBit m0 info par
 
-  pub plain-info : local < 2056 → r ≡ pack 16 (from (bitAt info) (infoBits * block + elementBits * local)) → Agree (bitAt r) (plainBit F e)
+  pub plain-info : local < infoElements → r ≡ pack 16 (from (bitAt info) (infoBits * block + elementBits * local)) → Agree (bitAt r) (plainBit F e)
   plain-info h p =
       agree-packed r (from (bitAt info) (infoBits * block + elementBits * local)) (plainBit F e) (from-bits info (infoBits * block + elementBits * local)) p
       (λ i l. sym (plain-fec F e i no-pad l ∙ held-info m0 info par block local i h l))
 
-  pub plain-tail : (crc mbas : ℕ) → local ≡ 2056 → crc ≡ blockCrc info block → mbas ≡ mbasOf m0 block
+  pub plain-tail : (crc mbas : ℕ) → local ≡ infoElements → crc ≡ blockCrc info block → mbas ≡ mbasOf m0 block
       → r ≡ pack 16 (tailBit crc mbas (from (bitAt par) (parityBits * block))) → Agree (bitAt r) (plainBit F e)
   plain-tail crc mbas h pc pm p =
       agree-packed r (tailBit crc mbas (from (bitAt par) (parityBits * block))) (plainBit F e) (tail-bits crc mbas (from (bitAt par) (parityBits * block)) (from-bits par (parityBits * block))) p
       (λ i l. let q : elementBits * local + i ≡ infoBits + i = omega arith in
       rw (pc, pm) (sym (plain-fec F e i no-pad l ∙ ap (F block) q ∙ held-tail m0 info par block i l)))
 
-  pub plain-parity : 2056 < local → r ≡ pack 16 (from (bitAt par) (parityBits * block + (elementBits * (local - 2056) - 38))) → Agree (bitAt r) (plainBit F e)
+  pub plain-parity : infoElements < local → r ≡ pack 16 (from (bitAt par) (parityBits * block + (elementBits * (local - infoElements) - 38))) → Agree (bitAt r) (plainBit F e)
   plain-parity h p =
-      agree-packed r (from (bitAt par) (parityBits * block + (elementBits * (local - 2056) - 38))) (plainBit F e)
-      (from-bits par (parityBits * block + (elementBits * (local - 2056) - 38))) p
+      agree-packed r (from (bitAt par) (parityBits * block + (elementBits * (local - infoElements) - 38))) (plainBit F e)
+      (from-bits par (parityBits * block + (elementBits * (local - infoElements) - 38))) p
       (λ i l. sym (plain-fec F e i no-pad l ∙ held-parity m0 info par block local i h))
 
 -- ---- the CRC of a block's part of the information
@@ -119,12 +119,12 @@ part-bytes s a n h k = by-bound n k (λ l. rw (getD-take n (drop a s) k 0 l, get
     short : n ≤ k → length (take n (drop a s)) ≤ k
     short l = simp length-take (omega arith)
 
-pub block-part : (table info : List ℕ) (t n : ℕ) → table ≡ entries → Bytes info → 30583 * (t + 1) ≤ length info → n ≡ 30583 → crcBy table (take n (drop (30583 * t) info)) ≡ blockCrc info t
+pub block-part : (table info : List ℕ) (t n : ℕ) → table ≡ entries → Bytes info → infoBytes * (t + 1) ≤ length info → n ≡ infoBytes → crcBy table (take n (drop (infoBytes * t) info)) ≡ blockCrc info t
 unfolding blockCrc infoBit
 block-part table info t n e b h p =
-    let part = take n (drop (30583 * t) info) in
-    let long : 8 * length part ≡ infoBits = rw (part-long info (30583 * t) n (omega arith)) (omega arith) in
-    bytes-crc table part e (part-bytes info (30583 * t) n b)
+    let part = take n (drop (infoBytes * t) info) in
+    let long : 8 * length part ≡ infoBits = rw (part-long info (infoBytes * t) n (omega arith)) (omega arith) in
+    bytes-crc table part e (part-bytes info (infoBytes * t) n b)
     ∙ ap (λ (m : ℕ). crcOf m (bitAt part)) long
     ∙ crc-ext infoBits (bitAt part) (λ i. bitAt info (infoBits * t + i))
-    (λ i l. let q : 8 * (30583 * t) + i ≡ infoBits * t + i = omega arith in bitOf-part 8 info (30583 * t) n i (omega arith) ∙ ap (bitAt info) q)
+    (λ i l. let q : 8 * (infoBytes * t) + i ≡ infoBits * t + i = omega arith in bitOf-part 8 info (infoBytes * t) n i (omega arith) ∙ ap (bitAt info) q)

@@ -1,15 +1,14 @@
 -- The bytes of the element that holds a block's CRC and MBAS. Assumes nothing.
 use Prim.Native.Nat.{ℕ, _+_, _-_, _*_, _/_, _%_, _^_, _≤_, _<_}
 use mathlib.Core.Bool.{Bool, true, false, cond}
-use mathlib.Core.Path.{_≡_, refl, sym, ap, _∙_}
+use mathlib.Core.Path.{_≡_, sym, ap, _∙_}
 use mathlib.Core.List.{List}
-use native.Mathlib.Nat.{zero-add, add-zero}
+use native.Mathlib.Nat.{zero-add}
 use native.Mathlib.Omega.{arith}
 use borrow.Author.Tests.{lt-ltb, le-ltb}
 use lib.Dec.{ltb}
 use Rattle.bits.specs.Bits.{num, digit, bitAt, from, Bits}
 use Rattle.bits.proofs.Numbers.{num-ext, num-split, num-front, num-is, num-part, digit-lt}
-use Rattle.bits.proofs.Packing.{bitOf-lt}
 use Rattle.coder.specs.Parts.{tailBit}
 
 module _ (crc mbas : ℕ) (p : ℕ → ℕ) where

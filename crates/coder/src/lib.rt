@@ -6,7 +6,7 @@ ghost use lib.ListN.{length};
 ghost use Rattle.bits.specs.Bits.{tabulate, bitAt, byteOf, pack, from};
 ghost use Rattle.answer.specs.Outcomes.{Outcome};
 ghost use Rattle.crc.specs.ByBytes.{entries};
-ghost use Rattle.line.specs.Sizes.{infoLength, captureLength, words};
+ghost use Rattle.line.specs.Sizes.{infoBytes, fecBlocks, superElements, infoLength, captureLength, words};
 ghost use Rattle.line.specs.Fec.{fecBit, blockCrc};
 ghost use Rattle.line.specs.Words.{wordsOf};
 ghost use Rattle.coder.specs.Code.{captureOf, codeAnswer, codeLeaves};
@@ -16,6 +16,12 @@ ghost use Rattle.coder.specs.Parts.{Agree, plainBit, tailBit, entry, Crc
 const SUPER_GROUPS: usize = line::SUPER_ELEMENTS / 8;
 
 const FILLER_GROUPS: usize = line::LONGEST_WAIT / 8;
+
+// CRC and MBAS stand between the information and the parity.
+const GUARD_BITS: usize = line::PARITY_FROM - line::INFO_BITS;
+
+// Eight super frames have so many FEC blocks.
+const MOST_BLOCKS: usize = 8 * line::FEC_BLOCKS;
 
 // Codes n super frames whose FEC blocks count from m0 on. The count is the number of words written.
 pub fn code(n: u64, m0: u64, info: &[u8], parity: &[u8], capture: &mut [u8]) -> Answer
@@ -80,13 +86,13 @@ fn code_all(n: usize, m0: u64, info: &[u8], parity: &[u8], capture: &mut [u8])
 }
 
 // The CRCs of the FEC blocks, at most forty.
-fn block_crcs(n: usize, info: &[u8]) -> [u32; 40]
+fn block_crcs(n: usize, info: &[u8]) -> [u32; MOST_BLOCKS]
     requires { ⌜ (n < 9) × (length (now info) ≡ infoLength n) ⌝ }
     ensures { λ r. ⌜ Crcs n (now (info .entry)) r ⌝ }
 {
     let table = crc::table();
-    let mut crcs = [0u32; 40];
-    for t in 0..5 * n {
+    let mut crcs = [0u32; MOST_BLOCKS];
+    for t in 0..line::FEC_BLOCKS * n {
         crcs[t] = block_crc(&table, info, t);
     }
     crcs
@@ -94,7 +100,7 @@ fn block_crcs(n: usize, info: &[u8]) -> [u32; 40]
 
 // The CRC of FEC block t.
 fn block_crc(table: &[u32; 256], info: &[u8], t: usize) -> u32
-    requires { ⌜ (now table ≡ entries) × (30583 * (t + 1) ≤ length (now info)) × (t < 40) ⌝ }
+    requires { ⌜ (now table ≡ entries) × (infoBytes * (t + 1) ≤ length (now info)) × (t < fecBlocks * 8) ⌝ }
     ensures { λ r. ⌜ r ≡ blockCrc (now (info .entry)) t ⌝ }
 {
     let from = line::INFO_BYTES * t;
@@ -107,7 +113,7 @@ fn write_groups(
     m0: u64,
     info: &[u8],
     parity: &[u8],
-    crcs: &[u32; 40],
+    crcs: &[u32; MOST_BLOCKS],
     sequence: &[u8],
     table: &[u16; 4096],
     tails: &[u16; 512],
@@ -129,13 +135,13 @@ fn group(
     m0: u64,
     info: &[u8],
     parity: &[u8],
-    crcs: &[u32; 40],
+    crcs: &[u32; MOST_BLOCKS],
     sequence: &[u8],
     table: &[u16; 4096],
     tails: &[u16; 512],
     g: usize,
 ) -> [[u8; 16]; 8]
-    requires { ⌜ Ready n (now info) (now parity) (now crcs) (now sequence) (now table) (now tails) × (g < 1372 * n + 60) ⌝ }
+    requires { ⌜ Ready n (now info) (now parity) (now crcs) (now sequence) (now table) (now tails) × (8 * g + 8 ≤ words n) ⌝ }
     ensures { λ r. ⌜ r ≡ tabulate 8 (from (wordsOf n (fecBit m0 (now (info .entry)) (now (parity .entry)))) (8 * g)) ⌝ }
 {
     let mut words = [[0u8; 16]; 8];
@@ -151,7 +157,7 @@ fn word(
     m0: u64,
     info: &[u8],
     parity: &[u8],
-    crcs: &[u32; 40],
+    crcs: &[u32; MOST_BLOCKS],
     sequence: &[u8],
     table: &[u16; 4096],
     tails: &[u16; 512],
@@ -175,17 +181,17 @@ fn plain_element(
     m0: u64,
     info: &[u8],
     parity: &[u8],
-    crcs: &[u32; 40],
+    crcs: &[u32; MOST_BLOCKS],
     e: usize,
 ) -> [u8; 16]
-    requires { ⌜ (n < 9) × Crcs n (now info) (now crcs) × (e < 10976 * n) ⌝ }
+    requires { ⌜ (n < 9) × Crcs n (now info) (now crcs) × (e < superElements * n) ⌝ }
     ensures { λ r. ⌜ Agree (bitAt r) (plainBit (fecBit m0 (now (info .entry)) (now (parity .entry))) e) ⌝ }
 {
     let l = e % line::SUPER_ELEMENTS;
     if line::PAD_ELEMENT <= l {
         return [0u8; 16];
     }
-    let t = 5 * (e / line::SUPER_ELEMENTS) + l / line::FEC_ELEMENTS;
+    let t = line::FEC_BLOCKS * (e / line::SUPER_ELEMENTS) + l / line::FEC_ELEMENTS;
     let m = l % line::FEC_ELEMENTS;
     if m < line::INFO_ELEMENTS {
         return bits::word_from(info, line::INFO_BITS * t + line::ELEMENT_BITS * m);
@@ -200,7 +206,7 @@ fn plain_element(
     }
     bits::word_from(
         parity,
-        line::PARITY_BITS * t + (line::ELEMENT_BITS * (m - line::INFO_ELEMENTS) - 38),
+        line::PARITY_BITS * t + (line::ELEMENT_BITS * (m - line::INFO_ELEMENTS) - GUARD_BITS),
     )
 }
 
@@ -227,7 +233,7 @@ fn tail_byte(crc: u32, mbas: u8, parity: &[u8], at: usize, k: usize) -> u8
     if k == 4 {
         return mbas * 4 + bits::byte_from(parity, at) / 64;
     }
-    bits::byte_from(parity, at + (8 * k - 38))
+    bits::byte_from(parity, at + (8 * k - GUARD_BITS))
 }
 
 // Stores the 128 bytes of a group.

@@ -1,6 +1,5 @@
 // The count that a first line holds, in decimal: document 01, "GMP places".
 ghost use mathlib.Core.Path.{_≡_};
-ghost use lib.ListN.{length};
 ghost use Rattle.count_line.specs.Lines.{countOf};
 ghost use Rattle.count_line.specs.Reading.{nextValue, startOf, stepOf, moreOf, soFar};
 use answer::Answer;

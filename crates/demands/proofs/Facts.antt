@@ -1,20 +1,19 @@
 -- From the promises of the coder to the demands. Assumes nothing.
 use Prim.Native.Nat.{ℕ, suc, zero, _<_}
-use mathlib.Core.Bool.{Bool, true, false, not, _&&_}
+use mathlib.Core.Bool.{true}
 use mathlib.Core.Path.{_≡_, refl, sym, ap, _∙_}
 use mathlib.Core.List.{List, [], _∷_, _++_}
-use native.Mathlib.Decide.{ℕ-discrete}
 use native.Mathlib.Omega.{arith}
 use lib.ListN.{length, drop}
 use Rattle.bits.specs.Loops.{count}
 use Rattle.answer.specs.Numbers.{allDone, wrongLength}
-use Rattle.answer.specs.Rows.{Row, done, refused, answerOf, buffers, Least, rising}
+use Rattle.answer.specs.Rows.{Row, done, refused, answerOf, rising}
 use Rattle.answer.specs.Outcomes.{Outcome, written}
 use Rattle.answer.specs.declared.Answer.{Answer}
 use Rattle.answer.proofs.Table.{answered-least, refusal-count, row-none, row-buffers, inTurn}
 use Rattle.answer.proofs.Meets.{written-done, written-refused}
 use Rattle.line.specs.Sizes.{infoLength, parityLength, captureLength, words}
-use Rattle.line.specs.Captures.{superAllowed, wrong}
+use Rattle.line.specs.Captures.{wrong}
 use Rattle.line.specs.Fec.{fecBit}
 use Rattle.line.specs.Words.{wordsOf}
 use Rattle.line.proofs.WordLaws.{length-laid}
@@ -22,11 +21,11 @@ use Rattle.coder.specs.Code.{captureOf, codeRows, codeAnswer, codeLeaves}
 use Rattle.coder.proofs.Exactly.{code-rise}
 use Rattle.reader.specs.Read.{readRows, readAnswer, readLeaves}
 use Rattle.editor.specs.Edit.{listed, listOf, editRows, editAnswer, editLeaves}
-use Rattle.capture.specs.Damage.{Input, damaged, howMany}
+use Rattle.capture.specs.Damage.{Input, damaged}
 use Rattle.capture.specs.Edits.{EditInput, newInfo, newParity}
-use Rattle.capture.proofs.Demand2.{ReadBack, demand-2, none-left, right}
-use Rattle.capture.proofs.Demands.{EditIsCoding, demand-3}
-use Rattle.demands.specs.Demands.{Refused, Refuses, choiceOf, ReadsBack, EditsAsCoded}
+use Rattle.capture.proofs.Demand2.{demand-2, none-left, right}
+use Rattle.capture.proofs.Demands.{demand-3}
+use Rattle.demands.specs.Demands.{Refuses, choiceOf, ReadsBack, EditsAsCoded}
 use Rattle.demands.specs.Hurt.{hurtBytes}
 use Rattle.demands.proofs.Hurting.{hurt-bytes}
 

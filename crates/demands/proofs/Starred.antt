@@ -1,9 +1,8 @@
 -- The starred cases of document 01's "Both sides of each edge", as one table computed from the definitions. Assumes nothing.
-use Prim.Native.Nat.{ℕ}
-use mathlib.Core.Path.{_≡_, refl, ap}
-use mathlib.Core.List.{List, [], _∷_, _++_}
+use mathlib.Core.Path.{_≡_}
+use mathlib.Core.List.{_∷_, _++_}
 use lib.ListN.{replicate}
-use Rattle.bits.specs.Bits.{tabulate, num, pack}
+use Rattle.bits.specs.Bits.{pack}
 use Rattle.gmp.specs.Places.{kindAt, isData}
 use Rattle.hamming.specs.Code.{coded}
 use Rattle.hamming.proofs.Words.{coded-zero}

@@ -1,10 +1,8 @@
 -- The customer's demands, each the contract of a function that calls the coder and sees only its promises. Assumes nothing: these are definitions.
-use Prim.Native.Nat.{ℕ, _<_}
-use mathlib.Core.Bool.{Bool, true, false}
+use Prim.Native.Nat.{ℕ}
 use mathlib.Core.Path.{_≡_}
 use mathlib.Core.List.{List, _++_}
 use lib.ListN.{length, getD, drop}
-use Rattle.bits.specs.Bits.{Bytes}
 use Rattle.bits.specs.Loops.{count}
 use Rattle.answer.specs.Numbers.{allDone}
 use Rattle.answer.specs.Rows.{Row, done, Least}

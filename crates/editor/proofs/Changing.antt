@@ -1,17 +1,12 @@
 -- The bits that an edit reads, the bits that change, and what they leave: the change of the CRC. Assumes nothing.
-use Prim.Native.Nat.{ℕ, _+_, _-_, _*_, _/_, _%_, _≤_, _<_}
-use mathlib.Core.Bool.{true, false}
+use Prim.Native.Nat.{ℕ, _+_, _-_, _*_, _/_, _%_, _<_}
+use mathlib.Core.Bool.{false}
 use mathlib.Core.Path.{_≡_, sym, ap, _∙_}
 use mathlib.Core.List.{List}
 use native.Mathlib.Nat.{add-zero}
 use native.Mathlib.Omega.{arith}
-use lib.Dec.{lit<}
-use lib.Pow.{pow-pos}
-use Rattle.bits.specs.Bits.{num, digit, bitOf, bitAt, byteOf, pack, Bits, Bytes}
-use Rattle.bits.proofs.Common.{by-bound}
-use Rattle.bits.proofs.Lists.{getD-tabulate, getD-past}
-use Rattle.bits.proofs.Numbers.{num-zero, num-lt}
-use Rattle.bits.proofs.Packing.{bitOf-at, bitOf-packs, length-packs}
+use Rattle.bits.specs.Bits.{digit, bitOf, bitAt, Bits}
+use Rattle.bits.proofs.Packing.{bitOf-at, bitOf-packs}
 use Rattle.crc.specs.Crc.{remOf, shiftN}
 use Rattle.crc.proofs.Linear.{alone}
 use Rattle.scrambler.specs.Scrambler.{o, period}

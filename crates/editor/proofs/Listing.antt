@@ -5,13 +5,13 @@ use mathlib.Core.Path.{_≡_, refl, sym, ap, _∙_}
 use mathlib.Core.List.{List}
 use native.Mathlib.Decide.{decLt}
 use native.Mathlib.Omega.{arith}
-use borrow.Author.Tests.{leb-false, eqb-true, eq-eqb, ne-eqb, lt-ltb, le-ltb, le-leb, lt-leb, not-true}
+use borrow.Author.Tests.{leb-false, eqb-true, eq-eqb, lt-ltb, le-ltb, le-leb, lt-leb, not-true}
 use lib.Dec.{ltb, eqb}
 use Rattle.bits.specs.Loops.{count}
 use Rattle.bits.proofs.Common.{clash, and-left, and-right}
 use Rattle.hamming.specs.Code.{checksOf}
 use Rattle.line.specs.Words.{wordIn}
-use Rattle.line.specs.Sizes.{fecBlocks, elementBits, superElements, fecElements, infoElements, words}
+use Rattle.line.specs.Sizes.{fecBlocks, elementBits, superElements, fecElements, infoElements, words, longestWait}
 use Rattle.line.specs.Slots.{slotOf, delay, elementIn, holds}
 use Rattle.line.proofs.SlotLaws.{held}
 use Rattle.editor.specs.Edit.{blocksOf, fecOf, blockFrom, elementFec, elementLocal, isPad, touches, listed, fails}
@@ -174,27 +174,27 @@ pub own-in : (N b m : ℕ) → b < blocksOf N → m < fecElements → firstEleme
 own-in N b m h l = omega arith
 
 -- how code sees the element of a word: with 480 more, it is the word and 32 times its row
-pub row-element : (w e : ℕ) → w + 32 * (w % 16) ≡ e + 480 → (delay w ≤ w) × (elementIn w ≡ e)
+pub row-element : (w e : ℕ) → w + 32 * (w % 16) ≡ e + longestWait → (delay w ≤ w) × (elementIn w ≡ e)
 unfolding delay elementIn
 row-element w e h = (omega arith, omega arith)
 
-pub row-of : (w e : ℕ) → slotOf e ≡ w → w + 32 * (w % 16) ≡ e + 480
+pub row-of : (w e : ℕ) → slotOf e ≡ w → w + 32 * (w % 16) ≡ e + longestWait
 unfolding slotOf delay
 row-of w e h = omega arith
 
 -- one of another FEC block, of the pad, or filler
-pub listed-elsewhere : (N b w : ℕ) → ((m : ℕ) → m < fecElements → w + 32 * (w % 16) ≡ firstElement b + m + 480 → ⊥) → false ≡ listed N b w
+pub listed-elsewhere : (N b w : ℕ) → ((m : ℕ) → m < fecElements → w + 32 * (w % 16) ≡ firstElement b + m + longestWait → ⊥) → false ≡ listed N b w
 listed-elsewhere N b w n = by (listed N b w) refl
   where
     by : (t : Bool) → listed N b w ≡ t → false ≡ listed N b w
     by true h =
         let l = listed-holding N b w h in
         let e = elementIn w in
-        absurd (n (elementLocal e) (local-lt e) (row-of w e (held N w (l .element) .back) ∙ ap (λ (x : ℕ). x + 480) (element-is b e (l .no-pad) (l .block))))
+        absurd (n (elementLocal e) (local-lt e) (row-of w e (held N w (l .element) .back) ∙ ap (λ (x : ℕ). x + longestWait) (element-is b e (l .no-pad) (l .block))))
     by false h = sym h
 
 -- one of the client block's FEC block
-pub listed-touches : (N b w m : ℕ) → b < blocksOf N → m < fecElements → w + 32 * (w % 16) ≡ firstElement b + m + 480 → touches b (elementBits * m) elementBits ≡ listed N b w
+pub listed-touches : (N b w m : ℕ) → b < blocksOf N → m < fecElements → w + 32 * (w % 16) ≡ firstElement b + m + longestWait → touches b (elementBits * m) elementBits ≡ listed N b w
 unfolding listed holds
 listed-touches N b w m h l q =
     let r = row-element w (firstElement b + m) q in

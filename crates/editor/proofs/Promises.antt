@@ -1,6 +1,6 @@
 -- What an edit promises: which number is answered, exactly; which words are listed, and how many; what every word holds afterwards.
 -- Assumes nothing.
-use Prim.Native.Nat.{ℕ, _+_, _-_, _*_, _/_, _%_, _≤_, _<_}
+use Prim.Native.Nat.{ℕ, _+_, _-_, _*_, _/_, _≤_, _<_}
 use mathlib.Core.Bool.{true, false}
 use mathlib.Core.Path.{_≡_, refl, sym, ap, _∙_}
 use mathlib.Core.List.{List}
@@ -11,12 +11,12 @@ use Rattle.bits.proofs.Common.{by-bound}
 use Rattle.answer.specs.Numbers.{allDone}
 use Rattle.answer.specs.Rows.{Row, done, refused, Applies, Least, rising}
 use Rattle.answer.proofs.Table.{answered-least, least-answered, answered-done, done-answered, refusal-count}
-use Rattle.line.specs.Sizes.{fecBlocks, elementBits, superElements, fecElements, infoElements, captureLength, words}
+use Rattle.line.specs.Sizes.{elementBits, fecElements, infoElements, captureLength, words}
 use Rattle.line.specs.Slots.{slotOf, elementIn}
 use Rattle.line.specs.Words.{wordAt, symbolAt, wordIn, wordsOf, fecIn}
 use Rattle.line.proofs.SlotLaws.{element-slot, slot-lt, slot-once, holds-slot}
 use Rattle.line.proofs.WordLaws.{word-laid, word-lt, word-symbol, symbol-lt, place-back}
-use Rattle.editor.specs.Edit.{blocksOf, fecOf, blockFrom, editedFec, elementFec, elementLocal, touches, listed, listOf, editedWord, editedCapture, editRows, editAnswer}
+use Rattle.editor.specs.Edit.{blocksOf, blockFrom, editedFec, elementLocal, touches, listed, listOf, editedWord, editedCapture, editRows, editAnswer}
 use Rattle.editor.specs.Parts.{firstElement}
 use Rattle.editor.proofs.Touching.{element-tail, element-block, touches-some}
 use Rattle.editor.proofs.Picking.{length-picked, picked-entry, picked-rises, picked-room, picked-has, count-few, count-many}

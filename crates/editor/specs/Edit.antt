@@ -1,10 +1,10 @@
 -- Document 01, "Captures": an edit of one client block and the parity of its FEC block, in any capture whose listed words pass their
 -- checks. One definition each for the answer, every byte of the capture and every entry of the list. Assumes nothing: these are definitions.
 use Prim.Native.Nat.{ℕ, zero, suc, _+_, _-_, _*_, _/_, _%_}
-use mathlib.Core.Bool.{Bool, true, false, cond, not, _&&_, _||_}
+use mathlib.Core.Bool.{Bool, false, cond, not, _&&_, _||_}
 use mathlib.Core.List.{List, [], _∷_, _++_}
 use lib.Dec.{ltb, leb, eqb}
-use lib.ListN.{length, drop}
+use lib.ListN.{drop}
 use Rattle.bits.specs.Bits.{num, digit, bitAt, added}
 use Rattle.bits.specs.Loops.{count}
 use Rattle.answer.specs.Numbers.{outsideSet, wrongLength, spareBit, listedFails}
@@ -13,7 +13,7 @@ use Rattle.answer.specs.Outcomes.{written}
 use Rattle.answer.specs.declared.Answer.{Answer}
 use Rattle.crc.specs.Crc.{remOf}
 use Rattle.hamming.specs.Code.{checksOf}
-use Rattle.line.specs.Sizes.{blockBits, clientBlocks, infoBits, crcBits, mbasFrom, parityFrom, parityBytes, fecBlocks, padFrom, elementBits, superElements, fecElements, captureLength, words}
+use Rattle.line.specs.Sizes.{blockBits, clientBlocks, infoBits, crcBits, mbasFrom, parityFrom, parityBytes, fecBlocks, elementBits, superElements, fecElements, captureLength, words, superBlocks}
 use Rattle.line.specs.Captures.{superAllowed, wrong}
 use Rattle.line.specs.Fec.{fields}
 use Rattle.line.specs.Slots.{elementIn, holds}
@@ -21,7 +21,7 @@ use Rattle.line.specs.Words.{laid, wordIn, wordsOf, fecIn}
 
 -- client blocks of N super frames, the bytes of one, and the length of the list
 abbrev pub blocksOf : ℕ → ℕ
-blocksOf N = 4760 * N
+blocksOf N = superBlocks * N
 
 abbrev pub blockBytes : ℕ
 blockBytes = 33

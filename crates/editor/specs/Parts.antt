@@ -14,7 +14,7 @@ use Rattle.answer.specs.declared.Answer.{Answer}
 use Rattle.scrambler.specs.Scrambler.{o}
 use Rattle.hamming.specs.Code.{coded}
 use Rattle.hamming.specs.Lent.{byteTable, tailTable}
-use Rattle.line.specs.Sizes.{crcBits, parityFrom, parityBytes, fecBlocks, elementBits, superElements, fecElements, captureLength}
+use Rattle.line.specs.Sizes.{crcBits, parityFrom, parityBytes, fecBlocks, elementBits, superElements, fecElements, captureLength, longestWait}
 use Rattle.line.specs.Fec.{fields}
 use Rattle.line.specs.Slots.{elementIn}
 use Rattle.line.specs.Words.{symbolPlace, laid, wordIn}
@@ -55,7 +55,7 @@ abbrev pub stretchFrom : ℕ → ℕ
 stretchFrom b = firstElement b + blockFrom b / elementBits
 
 abbrev pub stretchTo : ℕ → ℕ
-stretchTo b = firstElement b + (fecElements + 480)
+stretchTo b = firstElement b + (fecElements + longestWait)
 
 -- ---- a word made anew
 

@@ -8,7 +8,6 @@ ghost use lib.ListN.{length};
 ghost use Rattle.bits.specs.Bits.{bitAt, byteOf, pack};
 ghost use Rattle.bits.specs.Loops.{first};
 ghost use Rattle.answer.specs.Outcomes.{Outcome};
-ghost use Rattle.scrambler.specs.Scrambler.{o};
 ghost use Rattle.hamming.specs.Code.{checksOf};
 ghost use Rattle.hamming.specs.Lent.{byteTable};
 ghost use Rattle.line.specs.Sizes.{blockBits, fecBits, fecBlocks, elementBits, superElements, fecElements, infoElements, captureLength, words};
@@ -19,6 +18,9 @@ ghost use Rattle.editor.specs.Parts.{judged, Accepted, onePeriod, firstE
 
 // One period of the scrambler's sequence, and a word's bits more, so that a word can be cut out anywhere.
 const PERIOD_BYTES: usize = 8208;
+
+// The last bit of a client block.
+const BLOCK_LAST: usize = line::BLOCK_BITS - 1;
 
 // The bits of information behind an FEC block's first client block.
 const BEHIND_FIRST: usize = line::INFO_BITS - line::BLOCK_BITS;
@@ -104,16 +106,16 @@ fn holds_touched(b: usize, m: usize) -> bool
 {
     let from = line::BLOCK_BITS * (b % line::CLIENT_BLOCKS);
     line::INFO_ELEMENTS <= m
-        || (from / line::ELEMENT_BITS <= m && m <= (from + 256) / line::ELEMENT_BITS)
+        || (from / line::ELEMENT_BITS <= m && m <= (from + BLOCK_LAST) / line::ELEMENT_BITS)
 }
 
 // The first element of client block b's FEC block.
 fn first_element(b: usize) -> usize
-    requires { ⌜ b < 38080 ⌝ }
+    requires { ⌜ b < blocksOf 8 ⌝ }
     ensures { λ r. ⌜ r ≡ firstElement b ⌝ }
 {
-    line::SUPER_ELEMENTS * (b / line::CLIENT_BLOCKS / 5)
-        + line::FEC_ELEMENTS * (b / line::CLIENT_BLOCKS % 5)
+    line::SUPER_ELEMENTS * (b / line::CLIENT_BLOCKS / line::FEC_BLOCKS)
+        + line::FEC_ELEMENTS * (b / line::CLIENT_BLOCKS % line::FEC_BLOCKS)
 }
 
 // Whether word w of n super frames is listed. Its element and 480 more is w and 32 times its row: filler at the start stays below 480, and
@@ -135,7 +137,7 @@ fn is_listed(n: usize, b: usize, w: usize) -> bool
 
 // No word before this one is listed: an element does not leave before its own number.
 fn stretch_from(b: usize) -> usize
-    requires { ⌜ b < 38080 ⌝ }
+    requires { ⌜ b < blocksOf 8 ⌝ }
     ensures { λ r. ⌜ r ≡ stretchFrom b ⌝ }
 {
     first_element(b) + line::BLOCK_BITS * (b % line::CLIENT_BLOCKS) / line::ELEMENT_BITS
@@ -143,7 +145,7 @@ fn stretch_from(b: usize) -> usize
 
 // Nor one from here on: none waits longer than 480 words.
 fn stretch_to(b: usize) -> usize
-    requires { ⌜ b < 38080 ⌝ }
+    requires { ⌜ b < blocksOf 8 ⌝ }
     ensures { λ r. ⌜ r ≡ stretchTo b ⌝ }
 {
     first_element(b) + STRETCH
@@ -194,7 +196,7 @@ fn add(x: u8, y: u8) -> u8
 
 // Where symbol k of word w stands.
 fn place(w: usize, k: usize) -> usize
-    requires { ⌜ (w < 100000) × (k < 16) ⌝ }
+    requires { ⌜ (w < words 8) × (k < 16) ⌝ }
     ensures { λ r. ⌜ r ≡ symbolPlace w k ⌝ }
 {
     128 * (w / 8) + 8 * k + w % 8
@@ -202,7 +204,7 @@ fn place(w: usize, k: usize) -> usize
 
 // Bit j of word w of a capture.
 fn word_bit(capture: &[u8], w: usize, j: usize) -> u8
-    requires { ⌜ (w < 100000) × (j < 128) ⌝ }
+    requires { ⌜ (w < words 8) × (j < 128) ⌝ }
     ensures { λ r. ⌜ r ≡ bitAt (wordIn (now (capture .entry)) w) j ⌝ }
 {
     bits::bit_at(capture, 8 * place(w, j / 8) + j % 8)
@@ -210,11 +212,11 @@ fn word_bit(capture: &[u8], w: usize, j: usize) -> u8
 
 // Bit i of FEC block t of a capture, descrambled.
 fn received_bit(capture: &[u8], scr: &[u8; PERIOD_BYTES], t: usize, i: usize) -> u8
-    requires { ⌜ (now scr ≡ onePeriod) × (t < 40) × (i < fecBits) ⌝ }
+    requires { ⌜ (now scr ≡ onePeriod) × (t < fecBlocks * 8) × (i < fecBits) ⌝ }
     ensures { λ r. ⌜ r ≡ fecIn (wordIn (now (capture .entry))) t i ⌝ }
 {
-    let k = line::FEC_BITS * (t % 5) + i;
-    let w = line::slot((line::SUPER_ELEMENTS * (t / 5) + k / line::ELEMENT_BITS) as u32);
+    let k = line::FEC_BITS * (t % line::FEC_BLOCKS) + i;
+    let w = line::slot((line::SUPER_ELEMENTS * (t / line::FEC_BLOCKS) + k / line::ELEMENT_BITS) as u32);
     add(
         word_bit(capture, w, k % line::ELEMENT_BITS),
         bits::bit_at(scr, k % scrambler::PERIOD),
@@ -223,7 +225,7 @@ fn received_bit(capture: &[u8], scr: &[u8; PERIOD_BYTES], t: usize, i: usize) ->
 
 // Bit j of client block b's change: what was received, and what replaces it.
 fn changed_bit(b: usize, bits: &[u8], capture: &[u8], scr: &[u8; PERIOD_BYTES], j: usize) -> u8
-    requires { ⌜ (now scr ≡ onePeriod) × (b < 38080) × (j < blockBits) ⌝ }
+    requires { ⌜ (now scr ≡ onePeriod) × (b < blocksOf 8) × (j < blockBits) ⌝ }
     ensures { λ r. ⌜ r ≡ change b (now (bits .entry)) (fecIn (wordIn (now (capture .entry))) (fecOf b)) (blockFrom b + j) ⌝ }
 {
     add(
@@ -239,7 +241,7 @@ fn changed_bit(b: usize, bits: &[u8], capture: &[u8], scr: &[u8; PERIOD_BYTES], 
 
 // What the changed bits leave: the change of the CRC. Before the block nothing changes, and what follows it only shifts.
 fn crc_change(b: usize, bits: &[u8], capture: &[u8], scr: &[u8; PERIOD_BYTES]) -> u32
-    requires { ⌜ (now scr ≡ onePeriod) × (b < 38080) ⌝ }
+    requires { ⌜ (now scr ≡ onePeriod) × (b < blocksOf 8) ⌝ }
     ensures { λ r. ⌜ r ≡ crcChange b (now (bits .entry)) (fecIn (wordIn (now (capture .entry))) (fecOf b)) ⌝ }
 {
     let mut r: u32 = 0;
@@ -408,7 +410,7 @@ fn new_word(
 
 // Puts the sixteen symbols of word w to their places.
 fn put_word(capture: &mut [u8], w: usize, v: [u8; 16])
-    requires { ⌜ (w < 100000) × ((k : ℕ) → k < 16 → symbolPlace w k < length (now capture)) ⌝ }
+    requires { ⌜ (w < words 8) × ((k : ℕ) → k < 16 → symbolPlace w k < length (now capture)) ⌝ }
     ensures { λ _. ⌜ now (capture .exit) ≡ putWord (now (capture .entry)) w v ⌝ }
 {
     for k in 0..16 {

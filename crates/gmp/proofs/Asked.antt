@@ -1,7 +1,7 @@
 -- What the tests of `run` and `runs` say: the request is of a place, or it is refused. Assumes nothing.
 use Prim.Native.Nat.{ℕ}
 use mathlib.Core.Bool.{Bool, true, false, _||_}
-use mathlib.Core.Path.{_≡_, refl, sym, ap, _∙_}
+use mathlib.Core.Path.{_≡_, sym, ap, _∙_}
 use mathlib.Core.List.{[]}
 use borrow.Author.Tests.{ltb-false, le-ltb}
 use lib.Dec.{ltb}

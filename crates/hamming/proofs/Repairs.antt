@@ -8,7 +8,6 @@ use native.Mathlib.Omega.{arith}
 use borrow.Author.Tests.{lt-ltb, le-ltb, eq-eqb, ne-eqb}
 use lib.Bits.{bitXor, xor-self, xor-zero-l, xor-mod}
 use lib.ListN.{length}
-use Rattle.bits.specs.Bits.{Bytes}
 use Rattle.bits.proofs.Common.{by-bound, xor-none}
 use Rattle.hamming.specs.declared.Found.the-variants.{Clean, Turned, Beyond}
 use Rattle.hamming.specs.declared.Repaired.{Repaired}

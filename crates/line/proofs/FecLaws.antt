@@ -6,8 +6,8 @@ use mathlib.Core.List.{List}
 use native.Mathlib.Omega.{arith}
 use borrow.Author.Tests.{ltb-true, ltb-false, lt-ltb, le-ltb}
 use lib.Dec.{ltb}
-use lib.ListN.{length, getD}
-use Rattle.bits.specs.Bits.{digit, bitOf, bitAt, pack, Bits, Bytes}
+use lib.ListN.{length}
+use Rattle.bits.specs.Bits.{digit, bitAt, pack, Bits, Bytes}
 use Rattle.bits.proofs.Numbers.{digit-lt}
 use Rattle.bits.proofs.Packing.{bitOf-lt, packs-ext, packs-bitOf}
 use Rattle.line.specs.Sizes.{infoBits, crcBits, mbasBits, parityBits, mbasFrom, parityFrom, fecBits, infoLength, parityLength}

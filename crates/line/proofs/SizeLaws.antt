@@ -1,7 +1,7 @@
 -- How the sizes hang together: each line is a sum or a product of document 01, computed. Assumes nothing.
-use Prim.Native.Nat.{ℕ, _+_, _*_}
+use Prim.Native.Nat.{_+_, _*_}
 use mathlib.Core.Path.{_≡_, refl}
-use Rattle.line.specs.Sizes.{blockBits, clientBlocks, infoBits, crcBits, mbasBits, parityBits, mbasFrom, parityFrom, fecBits, infoBytes, parityBytes, fecBlocks, padFrom, padBits, superBits, superBytes, elementBits, superElements, fecElements, infoElements}
+use Rattle.line.specs.Sizes.{blockBits, clientBlocks, infoBits, crcBits, mbasBits, parityBits, mbasFrom, parityFrom, fecBits, infoBytes, parityBytes, fecBlocks, padFrom, padBits, superBits, superBytes, elementBits, superElements, fecElements, infoElements, superBlocks, superInfoBytes, superParityBytes, superCaptureBytes, longestWait, fillerBytes}
 
 pub record Sizes : Type 0 where
   pub blocks : infoBits ≡ clientBlocks * blockBits
@@ -17,6 +17,12 @@ pub record Sizes : Type 0 where
   pub fec-elements : fecBits ≡ elementBits * fecElements
   pub info-elements : infoBits ≡ elementBits * infoElements
   pub super-elements : superBits ≡ elementBits * superElements
+  pub super-blocks : superBlocks ≡ fecBlocks * clientBlocks
+  pub super-info : superInfoBytes ≡ fecBlocks * infoBytes
+  pub super-parity : superParityBytes ≡ fecBlocks * parityBytes
+  -- a word is sixteen bytes
+  pub super-capture : superCaptureBytes ≡ 16 * superElements
+  pub filler : fillerBytes ≡ 16 * longestWait
 
 pub sizes : Sizes
 sizes = record {
@@ -32,4 +38,9 @@ sizes = record {
   fec-elements = refl;
   info-elements = refl;
   super-elements = refl;
+  super-blocks = refl;
+  super-info = refl;
+  super-parity = refl;
+  super-capture = refl;
+  filler = refl;
 }

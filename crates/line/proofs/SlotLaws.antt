@@ -1,7 +1,7 @@
 -- The laws of the interleaver: the two index maps are inverse to each other, which slots are filler, and where two super frames mix.
 -- Assumes nothing.
 use Prim.Native.Nat.{ℕ, _+_, _-_, _*_, _/_, _%_, _≤_, _<_}
-use mathlib.Core.Bool.{Bool, true, false, cond, not, _&&_, and-true}
+use mathlib.Core.Bool.{Bool, true, false, cond, not, and-true}
 use mathlib.Core.Path.{_≡_, refl, sym, ap, _∙_}
 use native.Mathlib.Omega.{arith}
 use borrow.Author.Tests.{ltb-true, ltb-false, leb-true, lt-ltb, le-ltb, le-leb, lt-leb}
@@ -9,8 +9,8 @@ use lib.Dec.{ltb, leb}
 use Rattle.bits.specs.Loops.{count}
 use Rattle.bits.specs.Bits.{Bits}
 use Rattle.bits.proofs.Counting.{count-ext}
-use Rattle.bits.proofs.Common.{and-left, and-right, clash}
-use Rattle.line.specs.Sizes.{superElements, words}
+use Rattle.bits.proofs.Common.{and-left, and-right}
+use Rattle.line.specs.Sizes.{superElements, words, longestWait}
 use Rattle.line.specs.Slots.{delay, slotOf, elementIn, holds, slotBit}
 
 -- a slot has its element's row, and so its delay
@@ -35,7 +35,7 @@ pub slot-from : (e : ℕ) → delay (slotOf e) ≤ slotOf e
 unfolding slotOf
 slot-from e = rw (slot-delay e) (omega arith)
 
-pub delay-most : (e : ℕ) → delay e ≤ 480
+pub delay-most : (e : ℕ) → delay e ≤ longestWait
 unfolding delay
 delay-most e = omega arith
 
@@ -117,7 +117,7 @@ slot-bits N E w h i = bit-by (holds N w) (E (elementIn w) i) (h (elementIn w) i)
 
 -- ---- filler: 240 slots before the first elements have come through, 240 from the flush
 
-before-flush : (N k : ℕ) → k < 480 → 0 < N → holds N k ≡ leb (delay k) k
+before-flush : (N k : ℕ) → k < longestWait → 0 < N → holds N k ≡ leb (delay k) k
 unfolding holds elementIn
 before-flush N k h p = rw (lt-ltb (k - delay k) (superElements * N) (omega arith)) (and-true (leb (delay k) k))
 
@@ -135,28 +135,28 @@ in-flush N k p =
     by-test true e = lt-ltb (superElements * N + k - delay k) (superElements * N) (omega (arith, ltb-true k (delay k) e, delay-most k))
     by-test false e = le-ltb (superElements * N + k - delay k) (superElements * N) (omega (arith, ltb-false k (delay k) e))
 
-full-between : (N w : ℕ) → 480 ≤ w → w < superElements * N → holds N w ≡ true
+full-between : (N w : ℕ) → longestWait ≤ w → w < superElements * N → holds N w ≡ true
 unfolding holds elementIn
 full-between N w h l = rw (le-leb (delay w) w (omega (arith, delay-most w)), lt-ltb (w - delay w) (superElements * N) (omega arith))
 
-filler-first : count (λ k. not (leb (delay k) k)) 480 ≡ 240
+filler-first : count (λ k. not (leb (delay k) k)) longestWait ≡ 240
 unfolding count delay
 filler-first = refl
 
-filler-last : count (λ k. not (ltb k (delay k))) 480 ≡ 240
+filler-last : count (λ k. not (ltb k (delay k))) longestWait ≡ 240
 unfolding count delay
 filler-last = refl
 
 pub record Filler (N : ℕ) : Type 0 where
-  pub before : count (λ k. not (holds N k)) 480 ≡ 240
-  pub between : (w : ℕ) → 480 ≤ w → w < superElements * N → holds N w ≡ true
-  pub flushed : count (λ k. not (holds N (superElements * N + k))) 480 ≡ 240
+  pub before : count (λ k. not (holds N k)) longestWait ≡ 240
+  pub between : (w : ℕ) → longestWait ≤ w → w < superElements * N → holds N w ≡ true
+  pub flushed : count (λ k. not (holds N (superElements * N + k))) longestWait ≡ 240
 
 pub filler : (N : ℕ) → 0 < N → Filler N
 filler N p = record {
-  before = count-ext (λ k. not (holds N k)) (λ k. not (leb (delay k) k)) 480 (λ k l. ap not (before-flush N k l p)) ∙ filler-first;
+  before = count-ext (λ k. not (holds N k)) (λ k. not (leb (delay k) k)) longestWait (λ k l. ap not (before-flush N k l p)) ∙ filler-first;
   between = full-between N;
-  flushed = count-ext (λ k. not (holds N (superElements * N + k))) (λ k. not (ltb k (delay k))) 480 (λ k l. ap not (in-flush N k p)) ∙ filler-last;
+  flushed = count-ext (λ k. not (holds N (superElements * N + k))) (λ k. not (ltb k (delay k))) longestWait (λ k l. ap not (in-flush N k p)) ∙ filler-last;
 }
 
 -- ---- the interleaver does not stop at a border: word k behind the border before super frame f + 1 still holds an element of super frame f

@@ -1,11 +1,11 @@
 -- The laws of the order of bytes in a capture. Assumes nothing.
-use Prim.Native.Nat.{ℕ, _+_, _-_, _*_, _/_, _%_, _≤_, _<_}
-use mathlib.Core.Path.{_≡_, refl, sym, ap, ap₂, _∙_}
+use Prim.Native.Nat.{ℕ, _+_, _*_, _/_, _%_, _<_}
+use mathlib.Core.Path.{_≡_, sym, ap, ap₂, _∙_}
 use mathlib.Core.List.{List}
 use native.Mathlib.Omega.{arith}
 use lib.Dec.{lit<}
 use lib.ListN.{length, getD}
-use Rattle.bits.specs.Bits.{tabulate, Bytes}
+use Rattle.bits.specs.Bits.{Bytes}
 use Rattle.bits.proofs.Common.{by-bound}
 use Rattle.bits.proofs.Lists.{length-tabulate, getD-tabulate, getD-past, tabulate-ext, is-table}
 use Rattle.line.specs.Sizes.{captureLength, words}

@@ -69,16 +69,37 @@ fecElements = 2194
 abbrev pub infoElements : ℕ
 infoElements = 2056
 
--- ---- "Captures": lengths for N super frames, in bytes; words
+-- its client blocks, and the bytes of its information and of its parity
+abbrev pub superBlocks : ℕ
+superBlocks = 4760
+
+abbrev pub superInfoBytes : ℕ
+superInfoBytes = 152915
+
+abbrev pub superParityBytes : ℕ
+superParityBytes = 10240
+
+-- ---- "Captures": what a super frame adds to one, in bytes; the words that the first row waits, which a capture has more than elements; their bytes
+
+abbrev pub superCaptureBytes : ℕ
+superCaptureBytes = 175616
+
+abbrev pub longestWait : ℕ
+longestWait = 480
+
+abbrev pub fillerBytes : ℕ
+fillerBytes = 7680
+
+-- lengths for N super frames, in bytes; words
 
 abbrev pub infoLength : ℕ → ℕ
-infoLength N = 152915 * N
+infoLength N = superInfoBytes * N
 
 abbrev pub parityLength : ℕ → ℕ
-parityLength N = 10240 * N
+parityLength N = superParityBytes * N
 
 abbrev pub captureLength : ℕ → ℕ
-captureLength N = 175616 * N + 7680
+captureLength N = superCaptureBytes * N + fillerBytes
 
 abbrev pub words : ℕ → ℕ
-words N = 10976 * N + 480
+words N = superElements * N + longestWait

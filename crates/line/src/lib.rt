@@ -16,31 +16,37 @@ pub const BLOCK_BITS: usize = 257;
 
 pub const CLIENT_BLOCKS: usize = 952;
 
-pub const INFO_BITS: usize = 244664;
+pub const INFO_BITS: usize = CLIENT_BLOCKS * BLOCK_BITS;
 
-pub const MBAS_FROM: usize = 244696;
+pub const INFO_BYTES: usize = INFO_BITS / 8;
 
-pub const PARITY_FROM: usize = 244702;
+const CRC_BITS: usize = 32;
+
+pub const MBAS_FROM: usize = INFO_BITS + CRC_BITS;
+
+const MBAS_BITS: usize = 6;
+
+pub const PARITY_FROM: usize = MBAS_FROM + MBAS_BITS;
 
 pub const PARITY_BITS: usize = 16384;
 
-pub const FEC_BITS: usize = 261086;
+pub const PARITY_BYTES: usize = PARITY_BITS / 8;
 
-pub const INFO_BYTES: usize = 30583;
-
-pub const PARITY_BYTES: usize = 2048;
+pub const FEC_BITS: usize = PARITY_FROM + PARITY_BITS;
 
 pub const FEC_BLOCKS: usize = 5;
 
-pub const PAD_FROM: usize = 1305430;
+pub const PAD_FROM: usize = FEC_BLOCKS * FEC_BITS;
+
+pub const PAD_BITS: usize = 714;
 
 pub const ELEMENT_BITS: usize = 119;
 
-pub const INFO_ELEMENTS: usize = 2056;
+pub const INFO_ELEMENTS: usize = INFO_BITS / ELEMENT_BITS;
 
-pub const FEC_ELEMENTS: usize = 2194;
+pub const FEC_ELEMENTS: usize = FEC_BITS / ELEMENT_BITS;
 
-pub const SUPER_ELEMENTS: usize = 10976;
+pub const SUPER_ELEMENTS: usize = (PAD_FROM + PAD_BITS) / ELEMENT_BITS;
 
 // The first element of a super frame's pad.
 pub const PAD_ELEMENT: usize = FEC_BLOCKS * FEC_ELEMENTS;

@@ -1,7 +1,7 @@
 -- A product of two 64-bit numbers from the products of their halves. Assumes nothing.
 use Prim.Native.Nat.{ℕ, _+_, _*_, _/_, _%_, _^_, _<_, _≤_}
 use mathlib.Core.Path.{_≡_, sym, ap, _∙_}
-use native.Mathlib.Nat.{add-mul, mul-add, mul-assoc, mul-comm, mul-left-comm, div-add-mod', mul-le-mul, le-of-lt}
+use native.Mathlib.Nat.{add-mul, mul-add, mul-assoc, mul-comm, mul-left-comm, div-add-mod', mul-le-mul}
 use native.Mathlib.Omega.{arith}
 
 -- the product of two numbers of 32 bits fits into 64

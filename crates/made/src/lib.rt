@@ -1,7 +1,6 @@
 // Inputs made for the programs by a small stated generator, xorshift64*, and digests of what the programs wrote, FNV-1a of 64 bits.
 ghost use mathlib.Core.Path.{_≡_};
-ghost use Prim.Native.Nat.{_*_, _%_, _^_, _<_};
-ghost use lib.ListN.{length};
+ghost use Prim.Native.Nat.{_*_, _%_, _^_};
 ghost use Rattle.made.specs.Generator.{next as Generator·next, number, below as Generator·below, Made, bytesFrom, numbersFrom};
 ghost use Rattle.made.specs.Digest.{taken, takenNumber, digestOf, digestOfNumbers};
 

@@ -34,8 +34,8 @@ window-lt c f g i = by (isData c (f + i / groupBits))
 at-place : (c f n : ℕ) (g : List ℕ) (q r m : ℕ) → r < groupBits → Stands c f n q m → windowBit c f g (groupBits * m + r) ≡ bitAt g (groupBits * q + r)
 unfolding windowBit
 at-place c f n g q r m h s =
-    let d : (1028 * m + r) / 1028 ≡ m = omega arith in
-    let e : (1028 * m + r) % 1028 ≡ r = omega arith in
+    let d : (groupBits * m + r) / groupBits ≡ m = omega arith in
+    let e : (groupBits * m + r) % groupBits ≡ r = omega arith in
     rw (d, e, s .is-data, s .rank)
 
 digit-zero : (w j : ℕ) → digit w 0 j ≡ 0
@@ -94,19 +94,19 @@ module _ (c f n : ℕ) (g : List ℕ) (w : Window c f n) (spare : spareSet (data
     where
       by : (b : Bool) → ltb (i / groupBits) (dataFrom c f n) ≡ b → cond b (bitAt out (groupBits * groupPlace c f n (i / groupBits) + i % groupBits)) 0 ≡ bitAt g i
       by true e =
-          let q = i / 1028 in
-          let r = i % 1028 in
+          let q = i / groupBits in
+          let r = i % groupBits in
           let s = stands c f n q (ltb-true q (dataFrom c f n) e) in
           let m = groupPlace c f n q in
-          let l : 1028 * m + r < 8 * windowBytes n = omega (arith, s .inside, window-bytes n (w .even)) in
-          let k : 1028 * q + r ≡ i = omega arith in
-          bitOf-packs 8 (windowBytes n) (windowBit c f g) (1028 * m + r) (window-lt c f g) l ∙ at-place c f n g q r m (omega arith) s ∙ ap (bitAt g) k
+          let l : groupBits * m + r < 8 * windowBytes n = omega (arith, s .inside, window-bytes n (w .even)) in
+          let k : groupBits * q + r ≡ i = omega arith in
+          bitOf-packs 8 (windowBytes n) (windowBit c f g) (groupBits * m + r) (window-lt c f g) l ∙ at-place c f n g q r m (omega arith) s ∙ ap (bitAt g) k
       by false e =
           let d = dataFrom c f n in
-          let l : 1028 * d ≤ i = from-quotient d i (ltb-false (i / groupBits) d e) in
+          let l : groupBits * d ≤ i = from-quotient d i (ltb-false (i / groupBits) d e) in
           let o : d % 2 ≡ 1 = odd-behind d i l h in
-          let k : 1028 * d + (i - 1028 * d) ≡ i = omega arith in
-          sym (ap (bitAt g) (sym k) ∙ spare-zero d g (i - 1028 * d) spare o (omega (arith, odd-bytes d o)))
+          let k : groupBits * d + (i - groupBits * d) ≡ i = omega arith in
+          sym (ap (bitAt g) (sym k) ∙ spare-zero d g (i - groupBits * d) spare o (omega (arith, odd-bytes d o)))
 
   back-bytes : Bytes g → length g ≡ groupBytes (dataFrom c f n) → pack (groupBytes (dataFrom c f n)) (groupsBit c f n out) ≡ g
   back-bytes b l =

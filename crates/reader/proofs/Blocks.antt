@@ -97,29 +97,29 @@ unfolding digit
 digit-none w f a j b h e = sym (digit-num w f a j b h) ∙ rw (e, zero-div)
 
 unfoldable pub padByte : List ℕ → ℕ → Bool
-padByte s k = not (eqb (num 8 (bitAt s) (1305430 + 8 * k)) 0)
+padByte s k = not (eqb (num 8 (bitAt s) (padFrom + 8 * k)) 0)
 
-pub pad-byte : (s : List ℕ) (k x : ℕ) → x ≡ num 8 (bitAt s) (1305430 + 8 * k) → x ≡ 0 → padByte s k ≡ false
+pub pad-byte : (s : List ℕ) (k x : ℕ) → x ≡ num 8 (bitAt s) (padFrom + 8 * k) → x ≡ 0 → padByte s k ≡ false
 unfolding padByte
-pad-byte s k x e z = rw (eq-eqb (num 8 (bitAt s) (1305430 + 8 * k)) 0 (sym e ∙ z))
+pad-byte s k x e z = rw (eq-eqb (num 8 (bitAt s) (padFrom + 8 * k)) 0 (sym e ∙ z))
 
-pub pad-here : (s : List ℕ) (k x : ℕ) → length s ≡ superBytes → k < 90 → x ≡ num 8 (bitAt s) (1305430 + 8 * k) → (x ≡ 0 → ⊥) → true ≡ padOff s
+pub pad-here : (s : List ℕ) (k x : ℕ) → length s ≡ superBytes → k < 90 → x ≡ num 8 (bitAt s) (padFrom + 8 * k) → (x ≡ 0 → ⊥) → true ≡ padOff s
 unfolding padOff
-pad-here s k x len h e n = rw (ne-eqb (num 714 (bitAt s) 1305430) 0 (λ z. n (e ∙ num-zero 8 (bitAt s) (1305430 + 8 * k) (each z))))
+pad-here s k x len h e n = rw (ne-eqb (num padBits (bitAt s) padFrom) 0 (λ z. n (e ∙ num-zero 8 (bitAt s) (padFrom + 8 * k) (each z))))
   where
-    each : num 714 (bitAt s) 1305430 ≡ 0 → (j : ℕ) → j < 8 → bitAt s (1305430 + 8 * k + j) ≡ 0
-    each z j l = by-bound 714 (8 * k + j)
-        (λ m. ap (bitAt s) (omega arith) ∙ digit-none 714 (bitAt s) 1305430 (8 * k + j) (bitOf-lt 8 s) m z)
-        (λ m. bitOf-past 8 s (1305430 + 8 * k + j) (omega arith))
+    each : num padBits (bitAt s) padFrom ≡ 0 → (j : ℕ) → j < 8 → bitAt s (padFrom + 8 * k + j) ≡ 0
+    each z j l = by-bound padBits (8 * k + j)
+        (λ m. ap (bitAt s) (omega arith) ∙ digit-none padBits (bitAt s) padFrom (8 * k + j) (bitOf-lt 8 s) m z)
+        (λ m. bitOf-past 8 s (padFrom + 8 * k + j) (omega arith))
 
 pub pad-zero : (s : List ℕ) → ((k : ℕ) → k < 90 → padByte s k ≡ false) → false ≡ padOff s
 unfolding padOff padByte
-pad-zero s h = rw (eq-eqb (num 714 (bitAt s) 1305430) 0 (num-zero 714 (bitAt s) 1305430 each))
+pad-zero s h = rw (eq-eqb (num padBits (bitAt s) padFrom) 0 (num-zero padBits (bitAt s) padFrom each))
   where
-    each : (j : ℕ) → j < 714 → bitAt s (1305430 + j) ≡ 0
+    each : (j : ℕ) → j < padBits → bitAt s (padFrom + j) ≡ 0
     each j l =
-        let q : 1305430 + j ≡ 1305430 + 8 * (j / 8) + j % 8 = omega arith in
-        ap (bitAt s) q ∙ digit-none 8 (bitAt s) (1305430 + 8 * (j / 8)) (j % 8) (bitOf-lt 8 s) (omega arith) (byte (j / 8) (omega arith))
+        let q : padFrom + j ≡ padFrom + 8 * (j / 8) + j % 8 = omega arith in
+        ap (bitAt s) q ∙ digit-none 8 (bitAt s) (padFrom + 8 * (j / 8)) (j % 8) (bitOf-lt 8 s) (omega arith) (byte (j / 8) (omega arith))
       where
-        byte : (k : ℕ) → k < 90 → num 8 (bitAt s) (1305430 + 8 * k) ≡ 0
-        byte k m = eqb-true (num 8 (bitAt s) (1305430 + 8 * k)) 0 (not-false (eqb (num 8 (bitAt s) (1305430 + 8 * k)) 0) (h k m))
+        byte : (k : ℕ) → k < 90 → num 8 (bitAt s) (padFrom + 8 * k) ≡ 0
+        byte k m = eqb-true (num 8 (bitAt s) (padFrom + 8 * k)) 0 (not-false (eqb (num 8 (bitAt s) (padFrom + 8 * k)) 0) (h k m))

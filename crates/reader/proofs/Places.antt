@@ -18,7 +18,7 @@ use Rattle.scrambler.specs.Scrambler.{o}
 use Rattle.scrambler.proofs.Rule.{o-lt}
 use Rattle.hamming.specs.Code.{joined}
 use Rattle.hamming.proofs.Words.{joined-low, joined-high, joined-bit}
-use Rattle.line.specs.Sizes.{infoBits, parityBits, parityFrom, fecBits, infoBytes, parityBytes, fecBlocks, superBits, superBytes, superElements}
+use Rattle.line.specs.Sizes.{infoBits, parityBits, parityFrom, fecBits, infoBytes, parityBytes, fecBlocks, superBits, superBytes, superElements, elementBits, superInfoBytes, superParityBytes}
 use Rattle.line.specs.Frames.{superFrom, fecFrom}
 use Rattle.line.specs.Slots.{slotOf}
 use Rattle.line.specs.Words.{elementFrom, superIn, fecIn}
@@ -32,62 +32,62 @@ unfolding superIn superFrom
 super-lt W f k = omega arith
 
 -- the bits of two words that follow each other
-followed-low : (a b : List ℕ) (x : ℕ) → x < 119 → bitAt (followed a b) x ≡ bitAt a x
+followed-low : (a b : List ℕ) (x : ℕ) → x < elementBits → bitAt (followed a b) x ≡ bitAt a x
 followed-low a b x h =
     joined-bit (bitAt a) (num 9 (bitAt b) 0) x (bitOf-lt 8 a) (omega arith) ∙ joined-low (bitAt a) (num 9 (bitAt b) 0) x h
 
-followed-high : (a b : List ℕ) (x : ℕ) → 119 ≤ x → x < 128 → bitAt (followed a b) x ≡ bitAt b (x - 119)
+followed-high : (a b : List ℕ) (x : ℕ) → elementBits ≤ x → x < 128 → bitAt (followed a b) x ≡ bitAt b (x - elementBits)
 followed-high a b x l h =
-    let q : x ≡ 119 + (x - 119) = omega arith in
+    let q : x ≡ elementBits + (x - elementBits) = omega arith in
     joined-bit (bitAt a) (num 9 (bitAt b) 0) x (bitOf-lt 8 a) h
     ∙ ap (joined (bitAt a) (num 9 (bitAt b) 0)) q
-    ∙ joined-high (bitAt a) (num 9 (bitAt b) 0) (x - 119)
-    ∙ digit-num 9 (bitAt b) 0 (x - 119) (bitOf-lt 8 b) (omega arith)
-    ∙ ap (bitAt b) (zero-add (x - 119))
+    ∙ joined-high (bitAt a) (num 9 (bitAt b) 0) (x - elementBits)
+    ∙ digit-num 9 (bitAt b) 0 (x - elementBits) (bitOf-lt 8 b) (omega arith)
+    ∙ ap (bitAt b) (zero-add (x - elementBits))
 
 -- ---- a super frame out of its elements
 
 module _ (W : ℕ → List ℕ) (f l : ℕ) where
   abbrev pair : List ℕ
-  pair = followed (W (slotOf (10976 * f + l))) (W (slotOf (10976 * f + (l + 1))))
+  pair = followed (W (slotOf (superElements * f + l))) (W (slotOf (superElements * f + (l + 1))))
 
   -- the 128 bits from the first bit of element l on: 119 of its word, nine of the next one's
-  super-bit : (x : ℕ) → x < 128 → superIn W f (119 * l + x) ≡ (bitAt pair x + o (119 * l + x)) % 2
+  super-bit : (x : ℕ) → x < 128 → superIn W f (elementBits * l + x) ≡ (bitAt pair x + o (elementBits * l + x)) % 2
   unfolding superIn superFrom elementFrom
-  super-bit x h = by-bound 119 x low high
+  super-bit x h = by-bound elementBits x low high
     where
-      low : x < 119 → superIn W f (119 * l + x) ≡ (bitAt pair x + o (119 * l + x)) % 2
+      low : x < elementBits → superIn W f (elementBits * l + x) ≡ (bitAt pair x + o (elementBits * l + x)) % 2
       low m =
-          let p : (119 * l + x) / 119 ≡ l = omega arith in
-          let q : (119 * l + x) % 119 ≡ x = omega arith in
-          rw (p, q, followed-low (W (slotOf (10976 * f + l))) (W (slotOf (10976 * f + (l + 1)))) x m)
+          let p : (elementBits * l + x) / elementBits ≡ l = omega arith in
+          let q : (elementBits * l + x) % elementBits ≡ x = omega arith in
+          rw (p, q, followed-low (W (slotOf (superElements * f + l))) (W (slotOf (superElements * f + (l + 1)))) x m)
 
-      high : 119 ≤ x → superIn W f (119 * l + x) ≡ (bitAt pair x + o (119 * l + x)) % 2
+      high : elementBits ≤ x → superIn W f (elementBits * l + x) ≡ (bitAt pair x + o (elementBits * l + x)) % 2
       high m =
-          let p : (119 * l + x) / 119 ≡ l + 1 = omega arith in
-          let q : (119 * l + x) % 119 ≡ x - 119 = omega arith in
-          rw (p, q, followed-high (W (slotOf (10976 * f + l))) (W (slotOf (10976 * f + (l + 1)))) x m h)
+          let p : (elementBits * l + x) / elementBits ≡ l + 1 = omega arith in
+          let q : (elementBits * l + x) % elementBits ≡ x - elementBits = omega arith in
+          rw (p, q, followed-high (W (slotOf (superElements * f + l))) (W (slotOf (superElements * f + (l + 1)))) x m h)
 
   -- the same bits at their place in the super frame
   placed : ℕ → ℕ
-  placed i = bitAt pair (i - 119 * l)
+  placed i = bitAt pair (i - elementBits * l)
 
   placed-lt : Bits placed
   unfolding placed
-  placed-lt i = bitOf-lt 8 pair (i - 119 * l)
+  placed-lt i = bitOf-lt 8 pair (i - elementBits * l)
 
   -- byte k from the first whole byte of element l on
   plain-byte : (k : ℕ) → k < 15 → bitXor (num 8 (bitAt pair) (8 * k + l % 8)) (num 8 o (8 * (startOf l + k))) ≡ num 8 (superIn W f) (8 * (startOf l + k))
   unfolding placed
   plain-byte k h =
-      let p : 8 * (15 * l - l / 8 + k) ≡ 119 * l + (8 * k + l % 8) = omega arith in
+      let p : 8 * (15 * l - l / 8 + k) ≡ elementBits * l + (8 * k + l % 8) = omega arith in
       ap (λ (x : ℕ). bitXor x (num 8 o (8 * (startOf l + k))))
       (num-ext 8 (bitAt pair) placed (8 * k + l % 8) (8 * (startOf l + k)) (λ j m. ap (bitAt pair) (omega arith)))
       ∙ num-xor 8 placed o (8 * (startOf l + k)) placed-lt o-lt
       ∙ num-ext 8 (added placed o) (superIn W f) (8 * (startOf l + k)) (8 * (startOf l + k))
       (λ j m.
-      let q : 8 * (15 * l - l / 8 + k) + j ≡ 119 * l + (8 * k + l % 8 + j) = omega arith in
-      let s : 8 * (15 * l - l / 8 + k) + j - 119 * l ≡ 8 * k + l % 8 + j = omega arith in
+      let q : 8 * (15 * l - l / 8 + k) + j ≡ elementBits * l + (8 * k + l % 8 + j) = omega arith in
+      let s : 8 * (15 * l - l / 8 + k) + j - elementBits * l ≡ 8 * k + l % 8 + j = omega arith in
       ap₂ (λ (x y : ℕ). (bitAt pair x + o y) % 2) s q ∙ sym (super-bit (8 * k + l % 8 + j) (omega arith)) ∙ ap (superIn W f) (sym q))
 
 -- byte k of those that begin in element l, as the code makes it out of the element's word and the next one's
@@ -119,22 +119,22 @@ frame-fec cap f b i h l = frame-bit cap f (fecBits * b + i) (omega arith) ∙ sy
 -- ---- information and parity
 
 -- byte k of block b's, out of a super frame
-pub info-byte : (s : List ℕ) (b k : ℕ) → k < infoBytes → byteOf (from (bitAt s) (261086 * b)) k ≡ byteOf (infoIn s) (30583 * b + k)
+pub info-byte : (s : List ℕ) (b k : ℕ) → k < infoBytes → byteOf (from (bitAt s) (fecBits * b)) k ≡ byteOf (infoIn s) (infoBytes * b + k)
 unfolding infoIn
 info-byte s b k h =
-    num-ext 8 (from (bitAt s) (261086 * b)) (infoIn s) (8 * k) (8 * (30583 * b + k))
+    num-ext 8 (from (bitAt s) (fecBits * b)) (infoIn s) (8 * k) (8 * (infoBytes * b + k))
     (λ j m.
-    let p : (8 * (30583 * b + k) + j) / 244664 ≡ b = omega arith in
-    let q : (8 * (30583 * b + k) + j) % 244664 ≡ 8 * k + j = omega arith in
+    let p : (8 * (infoBytes * b + k) + j) / infoBits ≡ b = omega arith in
+    let q : (8 * (infoBytes * b + k) + j) % infoBits ≡ 8 * k + j = omega arith in
     rw (p, q))
 
-pub parity-byte : (s : List ℕ) (b k : ℕ) → k < parityBytes → byteOf (from (bitAt s) (261086 * b + 244702)) k ≡ byteOf (parityIn s) (2048 * b + k)
+pub parity-byte : (s : List ℕ) (b k : ℕ) → k < parityBytes → byteOf (from (bitAt s) (fecBits * b + parityFrom)) k ≡ byteOf (parityIn s) (parityBytes * b + k)
 unfolding parityIn
 parity-byte s b k h =
-    num-ext 8 (from (bitAt s) (261086 * b + 244702)) (parityIn s) (8 * k) (8 * (2048 * b + k))
+    num-ext 8 (from (bitAt s) (fecBits * b + parityFrom)) (parityIn s) (8 * k) (8 * (parityBytes * b + k))
     (λ j m.
-    let p : (8 * (2048 * b + k) + j) / 16384 ≡ b = omega arith in
-    let q : (8 * (2048 * b + k) + j) % 16384 ≡ 8 * k + j = omega arith in
+    let p : (8 * (parityBytes * b + k) + j) / parityBits ≡ b = omega arith in
+    let q : (8 * (parityBytes * b + k) + j) % parityBits ≡ 8 * k + j = omega arith in
     rw (p, q) (ap (bitAt s) (omega arith)))
 
 -- bit j of the information, and of the parity, of FEC blocks with the bits F
@@ -145,26 +145,26 @@ abbrev pub parityAll : (ℕ → ℕ → ℕ) → ℕ → ℕ
 parityAll F j = F (j / parityBits) (parityFrom + j % parityBits)
 
 -- byte k of super frame f's, in the whole
-pub info-whole : (cap s : List ℕ) (f k : ℕ) → s ≡ frameOf cap f → k < 152915 → byteOf (infoIn s) k ≡ byteOf (infoAll (fecIn (repaired cap))) (152915 * f + k)
+pub info-whole : (cap s : List ℕ) (f k : ℕ) → s ≡ frameOf cap f → k < superInfoBytes → byteOf (infoIn s) k ≡ byteOf (infoAll (fecIn (repaired cap))) (superInfoBytes * f + k)
 unfolding infoIn
 info-whole cap s f k e h =
     ap (λ (l : List ℕ). byteOf (infoIn l) k) e
-    ∙ num-ext 8 (infoIn (frameOf cap f)) (infoAll (fecIn (repaired cap))) (8 * k) (8 * (152915 * f + k))
+    ∙ num-ext 8 (infoIn (frameOf cap f)) (infoAll (fecIn (repaired cap))) (8 * k) (8 * (superInfoBytes * f + k))
     (λ j m.
-    let p : (8 * (152915 * f + k) + j) / 244664 ≡ 5 * f + (8 * k + j) / 244664 = omega arith in
-    let q : (8 * (152915 * f + k) + j) % 244664 ≡ (8 * k + j) % 244664 = omega arith in
-    frame-fec cap f ((8 * k + j) / 244664) ((8 * k + j) % 244664) (omega arith) (omega arith)
+    let p : (8 * (superInfoBytes * f + k) + j) / infoBits ≡ 5 * f + (8 * k + j) / infoBits = omega arith in
+    let q : (8 * (superInfoBytes * f + k) + j) % infoBits ≡ (8 * k + j) % infoBits = omega arith in
+    frame-fec cap f ((8 * k + j) / infoBits) ((8 * k + j) % infoBits) (omega arith) (omega arith)
     ∙ sym (ap₂ (fecIn (repaired cap)) p q))
 
-pub parity-whole : (cap s : List ℕ) (f k : ℕ) → s ≡ frameOf cap f → k < 10240 → byteOf (parityIn s) k ≡ byteOf (parityAll (fecIn (repaired cap))) (10240 * f + k)
+pub parity-whole : (cap s : List ℕ) (f k : ℕ) → s ≡ frameOf cap f → k < superParityBytes → byteOf (parityIn s) k ≡ byteOf (parityAll (fecIn (repaired cap))) (superParityBytes * f + k)
 unfolding parityIn
 parity-whole cap s f k e h =
     ap (λ (l : List ℕ). byteOf (parityIn l) k) e
-    ∙ num-ext 8 (parityIn (frameOf cap f)) (parityAll (fecIn (repaired cap))) (8 * k) (8 * (10240 * f + k))
+    ∙ num-ext 8 (parityIn (frameOf cap f)) (parityAll (fecIn (repaired cap))) (8 * k) (8 * (superParityBytes * f + k))
     (λ j m.
-    let p : (8 * (10240 * f + k) + j) / 16384 ≡ 5 * f + (8 * k + j) / 16384 = omega arith in
-    let q : (8 * (10240 * f + k) + j) % 16384 ≡ (8 * k + j) % 16384 = omega arith in
-    frame-fec cap f ((8 * k + j) / 16384) (244702 + (8 * k + j) % 16384) (omega arith) (omega arith)
+    let p : (8 * (superParityBytes * f + k) + j) / parityBits ≡ 5 * f + (8 * k + j) / parityBits = omega arith in
+    let q : (8 * (superParityBytes * f + k) + j) % parityBits ≡ (8 * k + j) % parityBits = omega arith in
+    frame-fec cap f ((8 * k + j) / parityBits) (parityFrom + (8 * k + j) % parityBits) (omega arith) (omega arith)
     ∙ sym (ap₂ (λ (x y : ℕ). fecIn (repaired cap) x (parityFrom + y)) p q))
 
 -- ---- a part that a callee filled

@@ -1,7 +1,7 @@
 -- Document 01, "Captures" and "Numbers handed back": reading. One definition for the answer and one for every byte of information and
 -- parity, for any bytes in the capture. Assumes nothing: these are definitions.
 use Prim.Native.Nat.{ℕ, _*_}
-use mathlib.Core.Bool.{Bool, true, false, not, _&&_}
+use mathlib.Core.Bool.{Bool, true, not, _&&_}
 use mathlib.Core.List.{List, [], _∷_}
 use lib.Dec.{eqb}
 use Rattle.bits.specs.Bits.{num}

@@ -16,7 +16,7 @@ ghost use Rattle.crc.specs.ByBytes.{entries};
 ghost use Rattle.hamming.specs.Code.{checksOf};
 ghost use Rattle.hamming.specs.Lent.{byteTable, positionTable};
 ghost use Rattle.hamming.specs.Repair.{repairOf};
-ghost use Rattle.line.specs.Sizes.{infoBits, fecBits, superBytes, infoLength, parityLength, words};
+ghost use Rattle.line.specs.Sizes.{infoBits, fecBits, fecBlocks, superBytes, infoLength, parityLength, words};
 ghost use Rattle.line.specs.Captures.{superAllowed};
 ghost use Rattle.line.specs.Fec.{mbasAllowed};
 ghost use Rattle.line.specs.Frames.{infoOf, parityOf};
@@ -24,6 +24,9 @@ ghost use Rattle.line.specs.Slots.{slotOf, holds};
 ghost use Rattle.line.specs.Words.{wordIn, fecIn};
 ghost use Rattle.reader.specs.Read.{repaired, allZero, readAnswer, readLeaves};
 ghost use Rattle.reader.specs.Parts.{judged, Accepted, OneIf, Tables, sequence, soughtOf, found, wordsTo, frameOf, followed, plainByte, mbasOff, crcOff, padOff, blockTaken, framesTo, infoIn, parityIn, verdictOf, lateAnswer, lateLeaves};
+
+// The pad in whole bytes.
+const PAD_BYTES: usize = (line::PAD_BITS + 7) / 8;
 
 // What the pass over the words found: the first word beyond repair and the first filler word not zero, each the number of words where there
 // is none, and how many words had checks that were not zero.
@@ -154,10 +157,10 @@ fn verdict(n: usize, w: WordTally, b: BlockTally) -> Answer
     if w.filler < line::SUPER_ELEMENTS * n + line::LONGEST_WAIT {
         return answer::refuse(answer::FILLER_NOT_ZERO, w.filler as u64);
     }
-    if b.mbas < 5 * n {
+    if b.mbas < line::FEC_BLOCKS * n {
         return answer::refuse(answer::WRONG_MBAS, b.mbas as u64);
     }
-    if b.crc < 5 * n {
+    if b.crc < line::FEC_BLOCKS * n {
         return answer::refuse(answer::WRONG_CRC, b.crc as u64);
     }
     if b.pad < n {
@@ -374,7 +377,7 @@ fn long_from(s: &[u8], at: usize) -> u32
 
 // Whether the MBAS of block b, which is block t of the capture, is another number than expected.
 fn is_mbas_off(m0: u64, s: &[u8], t: usize, b: usize) -> bool
-    requires { ⌜ b < 5 ⌝ }
+    requires { ⌜ b < fecBlocks ⌝ }
     ensures { λ r. ⌜ r ≡ mbasOff m0 (now (s .entry)) t b ⌝ }
 {
     bits::byte_from(s, line::FEC_BITS * b + line::MBAS_FROM) / 4 != line::mbas(m0, t as u64)
@@ -382,7 +385,7 @@ fn is_mbas_off(m0: u64, s: &[u8], t: usize, b: usize) -> bool
 
 // The CRC of the information of block b.
 fn block_crc(crcs: &[u32; 256], s: &[u8], b: usize) -> u32
-    requires { ⌜ (now crcs ≡ entries) × (b < 5) ⌝ }
+    requires { ⌜ (now crcs ≡ entries) × (b < fecBlocks) ⌝ }
     ensures { λ r. ⌜ r ≡ crcOf infoBits (from (bitAt (now (s .entry))) (fecBits * b)) ⌝ }
 {
     let mut block = [0u8; line::INFO_BYTES];
@@ -391,18 +394,18 @@ fn block_crc(crcs: &[u32; 256], s: &[u8], b: usize) -> u32
 }
 
 fn is_crc_off(crcs: &[u32; 256], s: &[u8], b: usize) -> bool
-    requires { ⌜ (now crcs ≡ entries) × (b < 5) ⌝ }
+    requires { ⌜ (now crcs ≡ entries) × (b < fecBlocks) ⌝ }
     ensures { λ r. ⌜ r ≡ crcOff (now (s .entry)) b ⌝ }
 {
     long_from(s, line::FEC_BITS * b + line::INFO_BITS) != block_crc(crcs, s, b)
 }
 
-// Whether a pad bit is not zero. The last of the 90 bytes reaches past the end, where there are zeros.
+// Whether a pad bit is not zero. The last of its bytes reaches past the end, where there are zeros.
 fn is_pad_off(s: &[u8]) -> bool
     requires { ⌜ length (now s) ≡ superBytes ⌝ }
     ensures { λ r. ⌜ r ≡ padOff (now (s .entry)) ⌝ }
 {
-    for k in 0..90 {
+    for k in 0..PAD_BYTES {
         if bits::byte_from(s, line::PAD_FROM + 8 * k) != 0 {
             return true;
         }
@@ -412,10 +415,10 @@ fn is_pad_off(s: &[u8]) -> bool
 
 // Block b of super frame f is taken in.
 fn take_block(crcs: &[u32; 256], m0: u64, s: &[u8], f: usize, b: usize, x: BlockTally) -> BlockTally
-    requires { ⌜ (now crcs ≡ entries) × (f < 8) × (b < 5) ⌝ }
+    requires { ⌜ (now crcs ≡ entries) × (f < 8) × (b < fecBlocks) ⌝ }
     ensures { λ r. ⌜ r ≡ blockTaken m0 (now (s .entry)) f b x ⌝ }
 {
-    let t = 5 * f + b;
+    let t = line::FEC_BLOCKS * f + b;
     BlockTally {
         mbas: sought(x.mbas, t, is_mbas_off(m0, s, t, b)),
         crc: sought(x.crc, t, is_crc_off(crcs, s, b)),
@@ -426,10 +429,10 @@ fn take_block(crcs: &[u32; 256], m0: u64, s: &[u8], f: usize, b: usize, x: Block
 // The five blocks of super frame f.
 fn take_blocks(crcs: &[u32; 256], m0: u64, s: &[u8], f: usize, x: BlockTally) -> BlockTally
     requires { ⌜ (now crcs ≡ entries) × (f < 8) ⌝ }
-    ensures { λ r. ⌜ r ≡ upto (blockTaken m0 (now (s .entry)) f) x 5 ⌝ }
+    ensures { λ r. ⌜ r ≡ upto (blockTaken m0 (now (s .entry)) f) x fecBlocks ⌝ }
 {
     let mut y = x;
-    for b in 0..5 {
+    for b in 0..line::FEC_BLOCKS {
         y = take_block(crcs, m0, s, f, b, y);
     }
     y
@@ -491,7 +494,7 @@ fn write_blocks(s: &[u8], info: &mut [u8], parity: &mut [u8])
     requires { ⌜ (length (now info) ≡ infoLength 1) × (length (now parity) ≡ parityLength 1) ⌝ }
     ensures { λ _. ⌜ (now (info .exit) ≡ pack (infoLength 1) (infoIn (now (s .entry)))) × (now (parity .exit) ≡ pack (parityLength 1) (parityIn (now (s .entry)))) ⌝ }
 {
-    for b in 0..5 {
+    for b in 0..line::FEC_BLOCKS {
         let i = line::INFO_BYTES * b;
         let p = line::PARITY_BYTES * b;
         bits::copy(s, line::FEC_BITS * b, &mut info[i..i + line::INFO_BYTES]);

@@ -1,10 +1,10 @@
 -- The sequence repeats after 65,535 bits: there the register is all ones again, and from sixteen ones the rule leaves one sequence.
 -- Assumes nothing.
-use Prim.Native.Nat.{ℕ, zero, suc, _+_, _-_, _*_, _/_, _%_, _≤_, _<_}
+use Prim.Native.Nat.{ℕ, zero, suc, _+_, _*_, _/_, _%_, _<_}
 use mathlib.Core.Path.{_≡_, refl, sym, ap, _∙_}
-use native.Mathlib.Nat.{add-zero, add-assoc, mul-zero, mul-suc, div-add-mod}
+use native.Mathlib.Nat.{add-zero, add-assoc, mul-zero, mul-suc}
 use native.Mathlib.Omega.{arith}
-use Rattle.bits.specs.Bits.{num, digit}
+use Rattle.bits.specs.Bits.{digit}
 use Rattle.bits.proofs.Numbers.{digit-num}
 use Rattle.scrambler.specs.Scrambler.{o, period}
 use Rattle.scrambler.specs.Register.{register}

@@ -1,7 +1,7 @@
 -- The rule at strides: o(n+16m) is the sum of o(n+15m), o(n+13m), o(n+4m) and o(n) for m = 1, 2, 4, .., since in the square of a sum
 -- without carries the mixed terms cancel. At m = 128 it adds whole bytes. Assumes nothing.
 use Prim.Native.Nat.{ℕ, _+_, _-_, _*_, _/_, _%_, _≤_, _<_}
-use mathlib.Core.Path.{_≡_, sym, ap, ap₂, _∙_}
+use mathlib.Core.Path.{_≡_, sym, ap, _∙_}
 use mathlib.Core.List.{List, _++_, append-nil}
 use native.Mathlib.Nat.{le-of-eq}
 use native.Mathlib.Omega.{arith}

@@ -1,7 +1,6 @@
 -- Each public contract has one answer: two results that meet it are the same. `Post` is the contract's own `ensures`, so a weaker contract would not
 -- pass here. Assumes nothing.
 use mathlib.Core.Path.{_≡_, sym, _∙_}
-use Rattle.sizes.specs.Lengths.{Bytes}
 use Rattle.sizes.proofs.large_space.Reads as large-space
 use Rattle.sizes.proofs.small_space.Reads as small-space
 use Rattle.sizes.proofs.information.Reads as information

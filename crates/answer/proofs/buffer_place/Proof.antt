@@ -3,8 +3,6 @@ use mathlib.Core.Path.{refl}
 use Rattle.answer.specs.Rows.{bufferPlace}
 use Rattle.answer.proofs.buffer_place.Statement.{statement}
 use Rattle.answer.proofs.buffer_place.Tie as tie
-use Rattle.answer.proofs.buffer_place.Reads as reads
-use Rattle.answer.proofs.buffer_place.Lts as lts
 
 returns : tie.Need-returns
 unfolding bufferPlace

@@ -3,9 +3,6 @@ use borrow.Author.Needs.{needs}
 use Rattle.bits.specs.Bits.{bitOf, digit}
 use Rattle.bits.proofs.bit_at.Statement.{statement}
 use Rattle.bits.proofs.bit_at.Tie as tie
-use Rattle.bits.proofs.bit_at.Reads as reads
-use Rattle.bits.proofs.bit_at.Lts as lts
-use Rattle.bits.proofs.byte_at.Reads as byte-at-reads
 
 -- src/lib.rt:23:6
 byte-at-requires : tie.Need-byte-at-requires

@@ -5,8 +5,6 @@ use borrow.Author.Needs.{needs}
 use denote.Ref.{now}
 use Rattle.bits.proofs.byte_at.Statement.{statement}
 use Rattle.bits.proofs.byte_at.Tie as tie
-use Rattle.bits.proofs.byte_at.Reads as reads
-use Rattle.bits.proofs.byte_at.Lts as lts
 
 -- src/lib.rt:13:9
 shared-slice-read-result : tie.Need-shared-slice-read-result

@@ -6,10 +6,6 @@ use Rattle.bits.proofs.Packing.{num-window}
 use borrow.Author.Needs.{needs}
 use Rattle.bits.proofs.byte_from.Statement.{statement}
 use Rattle.bits.proofs.byte_from.Tie as tie
-use Rattle.bits.proofs.byte_from.Reads as reads
-use Rattle.bits.proofs.byte_from.Lts as lts
-use Rattle.bits.proofs.byte_at.Reads as byte-at-reads
-use Rattle.bits.proofs.eight_of.Reads as eight-of-reads
 
 byte-at-requires : tie.Need-byte-at-requires
 byte-at-requires c κs = search needs

@@ -10,10 +10,6 @@ use Rattle.bits.proofs.LoopLaws.{loops}
 use Rattle.bits.proofs.Packing.{num-window-from}
 use Rattle.bits.proofs.copy_tested.Statement.{statement}
 use Rattle.bits.proofs.copy_tested.Tie as tie
-use Rattle.bits.proofs.copy_tested.Reads as reads
-use Rattle.bits.proofs.copy_tested.Lts as lts
-use Rattle.bits.proofs.byte_at.Reads as byte-at-reads
-use Rattle.bits.proofs.eight_of.Reads as eight-of-reads
 
 abbrev Inv-loop : tie.InvT-loop
 Inv-loop s i out₀ first down k₀ k-end out k = Filled k (byteOf (from (bitAt s) i)) out₀ out

@@ -3,9 +3,6 @@ use native.Mathlib.Omega.{arith}
 use borrow.Author.Needs.{needs}
 use Rattle.bits.proofs.eight_of.Statement.{statement}
 use Rattle.bits.proofs.eight_of.Tie as tie
-use Rattle.bits.proofs.eight_of.Reads as reads
-use Rattle.bits.proofs.eight_of.Lts as lts
-use Rattle.bits.proofs.wide.Reads as wide-reads
 
 wide-requires : tie.Need-wide-requires
 wide-requires c κs = search needs

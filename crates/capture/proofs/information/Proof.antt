@@ -5,9 +5,6 @@ use Rattle.capture.proofs.Parting.{Part, granted-part, part-given, part
 use borrow.Author.Needs.{needs}
 use Rattle.capture.proofs.information.Statement.{statement}
 use Rattle.capture.proofs.information.Tie as tie
-use Rattle.capture.proofs.information.Reads as reads
-use Rattle.capture.proofs.information.Lts as lts
-use Rattle.capture.proofs.information_answer.Reads as information-answer-reads
 
 -- what the second question's answer 0 says
 shown : (c : tie.Then1) → Part (c .before .before .before .before .args .n) (c .before .before .before .before .args .t) (now (c .before .before .before .before .args .info))

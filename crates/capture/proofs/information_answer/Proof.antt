@@ -13,12 +13,6 @@ use Rattle.capture.proofs.Parting.{no-frames, no-block, no-length, all-
 use borrow.Author.Needs.{needs}
 use Rattle.capture.proofs.information_answer.Statement.{statement}
 use Rattle.capture.proofs.information_answer.Tie as tie
-use Rattle.capture.proofs.information_answer.Reads as reads
-use Rattle.capture.proofs.information_answer.Lts as lts
-use Rattle.answer.proofs.buffer_place.Reads as buffer-place-reads
-use Rattle.answer.proofs.granted.Reads as granted-reads
-use Rattle.answer.proofs.refuse.Reads as refuse-reads
-use Rattle.line.proofs.super_allowed.Reads as super-allowed-reads
 
 allowed : (c : tie.Else1) → superAllowed (c .before .before .before .args .n) ≡ true
 allowed c = sym (c .before .super-allowed .ensures) ∙ not-false (c .before .super-allowed .result) (c .if1 .left)

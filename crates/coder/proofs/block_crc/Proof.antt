@@ -3,13 +3,11 @@ use Prim.Native.Nat.{_+_, _-_, _*_}
 use mathlib.Core.Path.{_∙_}
 use native.Mathlib.Omega.{arith}
 use denote.Ref.{now}
+use Rattle.line.specs.Sizes.{infoBytes}
 use Rattle.coder.proofs.Plain.{block-part}
 use borrow.Author.Needs.{needs}
 use Rattle.coder.proofs.block_crc.Statement.{statement}
 use Rattle.coder.proofs.block_crc.Tie as tie
-use Rattle.coder.proofs.block_crc.Reads as reads
-use Rattle.coder.proofs.block_crc.Lts as lts
-use Rattle.crc.proofs.crc.Reads as crc-reads
 
 mul-from : tie.Need-mul-from
 mul-from c = search needs
@@ -35,7 +33,7 @@ returns c =
     let a = s .args in
     let given = c .before .before .shared-slice-known .given in
     c .crc .ensures
-    ∙ block-part (now (a .table)) (now (a .info)) (a .t) (30583 * a .t + 30583 - 30583 * a .t) (s .pre .0) (λ k. given k .fits) (s .pre .1) (omega arith)
+    ∙ block-part (now (a .table)) (now (a .info)) (a .t) (infoBytes * a .t + infoBytes - infoBytes * a .t) (s .pre .0) (λ k. given k .fits) (s .pre .1) (omega arith)
 
 pub block-crc-spec : {M : Type 1} → statement M
 block-crc-spec =

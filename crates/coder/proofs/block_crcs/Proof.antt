@@ -6,10 +6,6 @@ use Rattle.bits.proofs.LoopLaws.{loops}
 use Rattle.line.specs.Fec.{blockCrc}
 use Rattle.coder.proofs.block_crcs.Statement.{statement}
 use Rattle.coder.proofs.block_crcs.Tie as tie
-use Rattle.coder.proofs.block_crcs.Reads as reads
-use Rattle.coder.proofs.block_crcs.Lts as lts
-use Rattle.coder.proofs.block_crc.Reads as block-crc-reads
-use Rattle.crc.proofs.table.Reads as table-reads
 
 abbrev Inv-loop : tie.InvT-loop
 Inv-loop n info table crcs₀ t₀ t-end crcs t = Filled t (blockCrc info) crcs₀ crcs

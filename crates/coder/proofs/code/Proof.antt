@@ -8,10 +8,6 @@ use Rattle.coder.proofs.Judging.{judged-is, accepted-by}
 use borrow.Author.Needs.{needs}
 use Rattle.coder.proofs.code.Statement.{statement}
 use Rattle.coder.proofs.code.Tie as tie
-use Rattle.coder.proofs.code.Reads as reads
-use Rattle.coder.proofs.code.Lts as lts
-use Rattle.coder.proofs.code_all.Reads as code-all-reads
-use Rattle.coder.proofs.judge.Reads as judge-reads
 
 judge-requires : tie.Need-judge-requires
 judge-requires c κs = search needs

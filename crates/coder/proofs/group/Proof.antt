@@ -8,9 +8,6 @@ use Rattle.line.specs.Fec.{fecBit}
 use Rattle.line.specs.Words.{wordsOf}
 use Rattle.coder.proofs.group.Statement.{statement}
 use Rattle.coder.proofs.group.Tie as tie
-use Rattle.coder.proofs.group.Reads as reads
-use Rattle.coder.proofs.group.Lts as lts
-use Rattle.coder.proofs.word.Reads as word-reads
 
 abbrev Inv-loop : tie.InvT-loop
 Inv-loop n m0 info parity crcs sequence table tails g words₀ j₀ words j = Filled j (from (wordsOf n (fecBit m0 info parity)) (8 * g)) words₀ words

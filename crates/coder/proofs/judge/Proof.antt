@@ -10,13 +10,6 @@ use Rattle.coder.specs.Parts.{judged}
 use borrow.Author.Needs.{needs}
 use Rattle.coder.proofs.judge.Statement.{statement}
 use Rattle.coder.proofs.judge.Tie as tie
-use Rattle.coder.proofs.judge.Reads as reads
-use Rattle.coder.proofs.judge.Lts as lts
-use Rattle.answer.proofs.buffer_place.Reads as buffer-place-reads
-use Rattle.answer.proofs.granted.Reads as granted-reads
-use Rattle.answer.proofs.refuse.Reads as refuse-reads
-use Rattle.line.proofs.mbas_allowed.Reads as mbas-allowed-reads
-use Rattle.line.proofs.super_allowed.Reads as super-allowed-reads
 
 few : (c : tie.Else1) → c .before .before .args .n < 9
 few c = super-frames (c .before .before .args .n) (sym (c .before .super-allowed .ensures) ∙ not-false (c .before .super-allowed .result) (c .if1 .left)) .few

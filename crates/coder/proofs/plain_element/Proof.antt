@@ -7,11 +7,6 @@ use Rattle.coder.proofs.Plain.{plain-pad, plain-info, plain-tail, plain
 use borrow.Author.Needs.{needs}
 use Rattle.coder.proofs.plain_element.Statement.{statement}
 use Rattle.coder.proofs.plain_element.Tie as tie
-use Rattle.coder.proofs.plain_element.Reads as reads
-use Rattle.coder.proofs.plain_element.Lts as lts
-use Rattle.bits.proofs.word_from.Reads as word-from-reads
-use Rattle.coder.proofs.tail_element.Reads as tail-element-reads
-use Rattle.line.proofs.mbas.Reads as mbas-reads
 
 returns : tie.Need-returns
 returns c = let a = c .before .before .before .args in plain-pad (fecBit (a .m0) (now (a .info)) (now (a .parity))) (a .e) (c .if1 .taken)

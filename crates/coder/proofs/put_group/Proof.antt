@@ -6,8 +6,6 @@ use mathlib.Core.Path.{refl}
 use Rattle.coder.specs.Parts.{entry}
 use Rattle.coder.proofs.put_group.Statement.{statement}
 use Rattle.coder.proofs.put_group.Tie as tie
-use Rattle.coder.proofs.put_group.Reads as reads
-use Rattle.coder.proofs.put_group.Lts as lts
 
 abbrev Inv-loop : tie.InvT-loop
 Inv-loop out₀ group k₀ out k = Filled k (entry group) out₀ out

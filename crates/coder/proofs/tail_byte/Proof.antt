@@ -10,9 +10,6 @@ use Rattle.coder.proofs.Plain.{from-bits}
 use borrow.Author.Needs.{needs}
 use Rattle.coder.proofs.tail_byte.Statement.{statement}
 use Rattle.coder.proofs.tail_byte.Tie as tie
-use Rattle.coder.proofs.tail_byte.Reads as reads
-use Rattle.coder.proofs.tail_byte.Lts as lts
-use Rattle.bits.proofs.byte_from.Reads as byte-from-reads
 
 mul-result : tie.Need-mul-result
 mul-result c = search needs

@@ -6,9 +6,6 @@ use Rattle.bits.specs.Bits.{bitAt, byteOf, from}
 use Rattle.coder.specs.Parts.{tailBit}
 use Rattle.coder.proofs.tail_element.Statement.{statement}
 use Rattle.coder.proofs.tail_element.Tie as tie
-use Rattle.coder.proofs.tail_element.Reads as reads
-use Rattle.coder.proofs.tail_element.Lts as lts
-use Rattle.coder.proofs.tail_byte.Reads as tail-byte-reads
 
 abbrev Inv-loop : tie.InvT-loop
 Inv-loop crc mbas parity at r₀ k₀ r k = Filled k (byteOf (tailBit crc mbas (from (bitAt parity) at))) r₀ r

@@ -10,14 +10,6 @@ use Rattle.coder.proofs.Coding.{word-filler, word-held}
 use borrow.Author.Needs.{needs}
 use Rattle.coder.proofs.word.Statement.{statement}
 use Rattle.coder.proofs.word.Tie as tie
-use Rattle.coder.proofs.word.Reads as reads
-use Rattle.coder.proofs.word.Lts as lts
-use Rattle.bits.proofs.word_from.Reads as word-from-reads
-use Rattle.coder.proofs.plain_element.Reads as plain-element-reads
-use Rattle.hamming.proofs.encode_by.Reads as encode-by-reads
-use Rattle.line.proofs.element_in.Reads as element-in-reads
-use Rattle.line.proofs.holds_element.Reads as holds-element-reads
-use Rattle.line.proofs.sum.Reads as sum-reads
 
 -- the word was found to hold an element
 holding : (c : tie.Else1) → holds (c .before .before .before .before .before .args .n) (c .before .before .before .before .before .args .w) ≡ true

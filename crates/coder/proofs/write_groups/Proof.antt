@@ -1,28 +1,22 @@
 -- `coder::write_groups` meets its contract: a group of eight words a turn. Assumes nothing.
 use Prim.Native.Nat.{_+_, _-_, _*_}
-use mathlib.Core.Path.{_≡_}
 use native.Mathlib.Omega.{arith}
-use lib.ListN.{length, getD}
+use lib.ListN.{getD}
 use denote.Ref.{now}
 use Rattle.bits.proofs.Lists.{Filled, filled-none, filled-block, filled-all}
-use Rattle.line.specs.Sizes.{captureLength}
+use Rattle.line.specs.Sizes.{captureLength, words}
 use Rattle.line.specs.Fec.{fecBit}
 use Rattle.line.specs.Words.{wordAt, symbolAt, laid, wordsOf}
 use Rattle.coder.specs.Code.{captureOf}
 use Rattle.coder.proofs.Coding.{group-left}
 use Rattle.coder.proofs.write_groups.Statement.{statement}
 use Rattle.coder.proofs.write_groups.Tie as tie
-use Rattle.coder.proofs.write_groups.Reads as reads
-use Rattle.coder.proofs.write_groups.Lts as lts
-use Rattle.coder.proofs.group.Reads as group-reads
-use Rattle.coder.proofs.put_group.Reads as put-group-reads
-use Rattle.symbols.proofs.interleave.Reads as interleave-reads
 
 abbrev Inv-loop : tie.InvT-loop
 Inv-loop n m0 info parity crcs sequence table tails capture₀ g₀ g-end capture g = Filled (128 * g) (λ b. getD (wordsOf n (fecBit m0 info parity) (wordAt b)) (symbolAt b) 0) capture₀ capture
 
 abbrev μ-loop : tie.MeasureT-loop
-μ-loop n m0 info parity crcs sequence table tails capture₀ g₀ g-end capture g = 1372 * n + 60 - g
+μ-loop n m0 info parity crcs sequence table tails capture₀ g₀ g-end capture g = words n - 8 * g
 
 mul-g-end : tie.Need-mul-g-end Inv-loop μ-loop
 mul-g-end c = omega arith

@@ -1,6 +1,6 @@
 -- `damage::turn` meets its contract: the sixteen symbols are taken one after the other. Assumes nothing.
 use Prim.Native.Nat.{_-_, _≤_}
-use mathlib.Core.Path.{_≡_, refl, ap, _∙_}
+use mathlib.Core.Path.{_≡_, refl}
 use lib.ListN.{length, length-set}
 use native.Mathlib.Omega.{arith}
 use Rattle.bits.proofs.LoopLaws.{Folded, folded-none, folded-more, folded-all}

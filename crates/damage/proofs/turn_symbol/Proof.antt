@@ -1,10 +1,8 @@
 -- `damage::turn_symbol` meets its contract. Assumes nothing.
-use Prim.Native.Nat.{ℕ, _*_, _/_, _%_}
-use mathlib.Core.Path.{sym, ap}
+use Prim.Native.Nat.{_*_, _/_, _%_}
+use mathlib.Core.Path.{sym}
 use native.Mathlib.Nat.{add-assoc}
 use denote.Ref.{now}
-use lib.Bits.{bitXor}
-use lib.ListN.{getD, set}
 use lib.Seq.{set-out}
 use native.Mathlib.Omega.{arith}
 use Rattle.line.specs.Words.{symbolPlace}

@@ -7,9 +7,6 @@ use Rattle.demands.proofs.Hurting.{getD-any}
 use borrow.Author.Needs.{needs}
 use Rattle.demands.proofs.choice.Statement.{statement}
 use Rattle.demands.proofs.choice.Tie as tie
-use Rattle.demands.proofs.choice.Reads as reads
-use Rattle.demands.proofs.choice.Lts as lts
-use Rattle.bits.proofs.wide.Reads as wide-reads
 
 shared-slice-read-wide : tie.Need-shared-slice-read-wide
 shared-slice-read-wide c = search needs

@@ -4,9 +4,6 @@ use Rattle.demands.proofs.Facts.{code-refuses}
 use borrow.Author.Needs.{needs}
 use Rattle.demands.proofs.code.Statement.{statement}
 use Rattle.demands.proofs.code.Tie as tie
-use Rattle.demands.proofs.code.Reads as reads
-use Rattle.demands.proofs.code.Lts as lts
-use Rattle.capture.proofs.code.Reads as code-reads
 
 code-requires : tie.Need-code-requires
 code-requires c κs = search needs

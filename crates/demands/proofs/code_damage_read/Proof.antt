@@ -4,11 +4,6 @@ use Rattle.demands.proofs.Facts.{coded-now, reads-back}
 use borrow.Author.Needs.{needs}
 use Rattle.demands.proofs.code_damage_read.Statement.{statement}
 use Rattle.demands.proofs.code_damage_read.Tie as tie
-use Rattle.demands.proofs.code_damage_read.Reads as reads
-use Rattle.demands.proofs.code_damage_read.Lts as lts
-use Rattle.capture.proofs.code.Reads as code-reads
-use Rattle.capture.proofs.read.Reads as read-reads
-use Rattle.demands.proofs.damage.Reads as damage-reads
 
 code-requires : tie.Need-code-requires
 code-requires c κs = search needs

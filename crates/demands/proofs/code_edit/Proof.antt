@@ -4,10 +4,6 @@ use Rattle.demands.proofs.Facts.{coded-now, edits-as-coded}
 use borrow.Author.Needs.{needs}
 use Rattle.demands.proofs.code_edit.Statement.{statement}
 use Rattle.demands.proofs.code_edit.Tie as tie
-use Rattle.demands.proofs.code_edit.Reads as reads
-use Rattle.demands.proofs.code_edit.Lts as lts
-use Rattle.capture.proofs.code.Reads as code-reads
-use Rattle.capture.proofs.edit.Reads as edit-reads
 
 code-requires : tie.Need-code-requires
 code-requires c κs = search needs

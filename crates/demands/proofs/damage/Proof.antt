@@ -8,9 +8,6 @@ use Rattle.bits.proofs.LoopLaws.{loops}
 use Rattle.demands.specs.Hurt.{hurtByte, hurtAt, hurtBytes}
 use Rattle.demands.proofs.damage.Statement.{statement}
 use Rattle.demands.proofs.damage.Tie as tie
-use Rattle.demands.proofs.damage.Reads as reads
-use Rattle.demands.proofs.damage.Lts as lts
-use Rattle.demands.proofs.hurt_byte.Reads as hurt-byte-reads
 
 abbrev Inv-loop : tie.InvT-loop
 Inv-loop flips capture₀ b₀ b-end capture b = Filled b (hurtAt flips capture₀) capture₀ capture

@@ -4,9 +4,6 @@ use Rattle.demands.proofs.Facts.{edit-refuses}
 use borrow.Author.Needs.{needs}
 use Rattle.demands.proofs.edit.Statement.{statement}
 use Rattle.demands.proofs.edit.Tie as tie
-use Rattle.demands.proofs.edit.Reads as reads
-use Rattle.demands.proofs.edit.Lts as lts
-use Rattle.capture.proofs.edit.Reads as edit-reads
 
 edit-requires : tie.Need-edit-requires
 edit-requires c κs = search needs

@@ -4,9 +4,6 @@ use Rattle.demands.specs.Hurt.{hurtByte}
 use borrow.Author.Needs.{needs}
 use Rattle.demands.proofs.hurt_byte.Statement.{statement}
 use Rattle.demands.proofs.hurt_byte.Tie as tie
-use Rattle.demands.proofs.hurt_byte.Reads as reads
-use Rattle.demands.proofs.hurt_byte.Lts as lts
-use Rattle.demands.proofs.choice.Reads as choice-reads
 
 mul-choice : tie.Need-mul-choice
 mul-choice c = search needs

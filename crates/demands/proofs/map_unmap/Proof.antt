@@ -4,10 +4,6 @@ use Rattle.mapping.proofs.RoundTrip.{round-trip}
 use borrow.Author.Needs.{needs}
 use Rattle.demands.proofs.map_unmap.Statement.{statement}
 use Rattle.demands.proofs.map_unmap.Tie as tie
-use Rattle.demands.proofs.map_unmap.Reads as reads
-use Rattle.demands.proofs.map_unmap.Lts as lts
-use Rattle.mapping.proofs.map.Reads as map-reads
-use Rattle.mapping.proofs.unmap.Reads as unmap-reads
 
 map-requires : tie.Need-map-requires
 map-requires c κs = search needs

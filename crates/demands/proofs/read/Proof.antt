@@ -4,9 +4,6 @@ use Rattle.demands.proofs.Facts.{read-refuses}
 use borrow.Author.Needs.{needs}
 use Rattle.demands.proofs.read.Statement.{statement}
 use Rattle.demands.proofs.read.Tie as tie
-use Rattle.demands.proofs.read.Reads as reads
-use Rattle.demands.proofs.read.Lts as lts
-use Rattle.capture.proofs.read.Reads as read-reads
 
 read-requires : tie.Need-read-requires
 read-requires c κs = search needs

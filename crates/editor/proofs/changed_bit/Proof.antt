@@ -1,21 +1,14 @@
 -- `editor::changed_bit` meets its contract. Assumes nothing.
 use Prim.Native.Nat.{ℕ, _+_, _-_, _%_}
-use mathlib.Core.Path.{sym, ap, ap₂, _∙_}
+use mathlib.Core.Path.{sym, ap₂, _∙_}
 use native.Mathlib.Omega.{arith}
 use denote.Ref.{now}
-use Rattle.bits.specs.Bits.{bitAt}
 use Rattle.line.specs.Words.{wordIn, fecIn}
-use Rattle.editor.specs.Edit.{fecOf, blockFrom}
-use Rattle.editor.proofs.Touching.{block-in}
+use Rattle.editor.specs.Edit.{fecOf}
 use Rattle.editor.proofs.Changing.{change-at}
 use borrow.Author.Needs.{needs}
 use Rattle.editor.proofs.changed_bit.Statement.{statement}
 use Rattle.editor.proofs.changed_bit.Tie as tie
-use Rattle.editor.proofs.changed_bit.Reads as reads
-use Rattle.editor.proofs.changed_bit.Lts as lts
-use Rattle.bits.proofs.bit_at.Reads as bit-at-reads
-use Rattle.editor.proofs.add.Reads as add-reads
-use Rattle.editor.proofs.received_bit.Reads as received-bit-reads
 
 mul-received-bit : tie.Need-mul-received-bit
 mul-received-bit c = search needs

@@ -1,33 +1,29 @@
 -- `editor::crc_change` meets its contract: a bit a turn, and then the zeros at once. Assumes nothing.
 use Prim.Native.Nat.{ℕ, _+_, _-_, _*_, _%_, _≤_, _<_}
 use mathlib.Core.List.{List}
-use mathlib.Core.Path.{_≡_, refl, sym, ap, _∙_}
+use mathlib.Core.Path.{_≡_, refl, ap, _∙_}
 use native.Mathlib.Nat.{mod-eq-of-lt}
 use native.Mathlib.Omega.{arith}
 use denote.Ref.{now}
 use Rattle.crc.specs.Crc.{step, remFrom, remOf, shiftN}
 use Rattle.crc.proofs.Linear.{rem-more}
 use Rattle.line.specs.Words.{wordIn, fecIn}
+use Rattle.line.specs.Sizes.{blockBits, clientBlocks}
 use Rattle.editor.specs.Edit.{fecOf, blockFrom, change}
 use Rattle.editor.proofs.Changing.{change-bits, crc-changes}
 use borrow.Author.Needs.{needs}
 use Rattle.editor.proofs.crc_change.Statement.{statement}
 use Rattle.editor.proofs.crc_change.Tie as tie
-use Rattle.editor.proofs.crc_change.Reads as reads
-use Rattle.editor.proofs.crc_change.Lts as lts
-use Rattle.crc.proofs.shifted.Reads as shifted-reads
-use Rattle.crc.proofs.take.Reads as take-reads
-use Rattle.editor.proofs.changed_bit.Reads as changed-bit-reads
 
 -- the changed bits of the block, the first of them bit 0
 abbrev turned : ℕ → List ℕ → List ℕ → ℕ → ℕ
 turned b bits capture i = change b bits (fecIn (wordIn capture) (fecOf b)) (blockFrom b + i)
 
 abbrev Inv-loop : tie.InvT-loop
-Inv-loop b bits capture scr r₀ j₀ r j = (j ≤ 257) × (r ≡ remOf (turned b bits capture) j)
+Inv-loop b bits capture scr r₀ j₀ r j = (j ≤ blockBits) × (r ≡ remOf (turned b bits capture) j)
 
 abbrev μ-loop : tie.MeasureT-loop
-μ-loop b bits capture scr r₀ j₀ r j = 257 - j
+μ-loop b bits capture scr r₀ j₀ r j = blockBits - j
 
 loop-holds : tie.Need-loop-holds Inv-loop μ-loop
 unfolding remFrom
@@ -68,10 +64,10 @@ returns : tie.Need-returns Inv-loop μ-loop
 returns c =
     let h = c .before .before .loop in
     let a = c .before .before .before .before .before .args in
-    let e : h .j ≡ 257 = omega (arith, h .inv .0, c .before .loop-test .left) in
+    let e : h .j ≡ blockBits = omega (arith, h .inv .0, c .before .loop-test .left) in
     c .shifted .ensures
-    ∙ ap (shiftN (244407 - 257 * (a .b % 952))) (h .inv .1 ∙ ap (remOf (turned (a .b) (now (a .bits)) (now (a .capture)))) e)
-    ∙ crc-changes (a .b) (now (a .bits)) (fecIn (wordIn (now (a .capture))) (fecOf (a .b))) (244407 - 257 * (a .b % 952)) (omega arith)
+    ∙ ap (shiftN (244407 - blockBits * (a .b % clientBlocks))) (h .inv .1 ∙ ap (remOf (turned (a .b) (now (a .bits)) (now (a .capture)))) e)
+    ∙ crc-changes (a .b) (now (a .bits)) (fecIn (wordIn (now (a .capture))) (fecOf (a .b))) (244407 - blockBits * (a .b % clientBlocks)) (omega arith)
 
 pub crc-change-spec : {M : Type 1} → statement M
 crc-change-spec =

@@ -7,13 +7,6 @@ use Rattle.editor.proofs.Answers.{fitting-by, accepted, judged-outcome,
 use borrow.Author.Needs.{needs}
 use Rattle.editor.proofs.edit.Statement.{statement}
 use Rattle.editor.proofs.edit.Tie as tie
-use Rattle.editor.proofs.edit.Reads as reads
-use Rattle.editor.proofs.edit.Lts as lts
-use Rattle.answer.proofs.buffer_place.Reads as buffer-place-reads
-use Rattle.answer.proofs.refuse.Reads as refuse-reads
-use Rattle.editor.proofs.edit_checked.Reads as edit-checked-reads
-use Rattle.editor.proofs.judge.Reads as judge-reads
-use Rattle.editor.proofs.spare_set.Reads as spare-set-reads
 
 judge-requires : tie.Need-judge-requires
 judge-requires c κs = search needs

@@ -4,13 +4,6 @@ use Rattle.editor.proofs.Answers.{nine-outcome, done-outcome}
 use borrow.Author.Needs.{needs}
 use Rattle.editor.proofs.edit_checked.Statement.{statement}
 use Rattle.editor.proofs.edit_checked.Tie as tie
-use Rattle.editor.proofs.edit_checked.Reads as reads
-use Rattle.editor.proofs.edit_checked.Lts as lts
-use Rattle.answer.proofs.granted.Reads as granted-reads
-use Rattle.answer.proofs.refuse.Reads as refuse-reads
-use Rattle.editor.proofs.first_refused.Reads as first-refused-reads
-use Rattle.editor.proofs.replace.Reads as replace-reads
-use Rattle.hamming.proofs.byte_table.Reads as byte-table-reads
 
 byte-table-requires : tie.Need-byte-table-requires
 byte-table-requires c κs = search needs

@@ -14,11 +14,6 @@ use Rattle.editor.proofs.Listing.{fails-outside, stretch-in}
 use borrow.Author.Needs.{needs}
 use Rattle.editor.proofs.first_refused.Statement.{statement}
 use Rattle.editor.proofs.first_refused.Tie as tie
-use Rattle.editor.proofs.first_refused.Reads as reads
-use Rattle.editor.proofs.first_refused.Lts as lts
-use Rattle.editor.proofs.is_refused.Reads as is-refused-reads
-use Rattle.editor.proofs.stretch_from.Reads as stretch-from-reads
-use Rattle.editor.proofs.stretch_to.Reads as stretch-to-reads
 
 abbrev Inv-loop : tie.InvT-loop
 Inv-loop n b capture t w₀ w-end w = (stretchFrom b ≤ w) × (w ≤ stretchTo b) × ((k : ℕ) → k < w → fails n b capture k ≡ false)

@@ -5,8 +5,6 @@ use Rattle.editor.proofs.Touching.{element-tail, element-before, block-
 use borrow.Author.Needs.{needs}
 use Rattle.editor.proofs.holds_touched.Statement.{statement}
 use Rattle.editor.proofs.holds_touched.Tie as tie
-use Rattle.editor.proofs.holds_touched.Reads as reads
-use Rattle.editor.proofs.holds_touched.Lts as lts
 
 mul-from : tie.Need-mul-from
 mul-from c = search needs

@@ -2,14 +2,11 @@
 use Prim.Native.Nat.{_+_, _-_, _*_, _%_}
 use mathlib.Core.Path.{_∙_}
 use native.Mathlib.Omega.{arith}
+use Rattle.line.specs.Sizes.{longestWait}
 use Rattle.editor.proofs.Listing.{listed-elsewhere, listed-touches}
 use borrow.Author.Needs.{needs}
 use Rattle.editor.proofs.is_listed.Statement.{statement}
 use Rattle.editor.proofs.is_listed.Tie as tie
-use Rattle.editor.proofs.is_listed.Reads as reads
-use Rattle.editor.proofs.is_listed.Lts as lts
-use Rattle.editor.proofs.first_element.Reads as first-element-reads
-use Rattle.editor.proofs.holds_touched.Reads as holds-touched-reads
 
 mul-x : tie.Need-mul-x
 mul-x c = search needs
@@ -47,7 +44,7 @@ returns-3 c =
     let s = f .before in
     let a = s .args in
     c .holds-touched .ensures
-    ∙ listed-touches (a .n) (a .b) (a .w) (a .w + 32 * (a .w % 16) - (f .first-element .result + 480)) (s .pre .0) (omega arith)
+    ∙ listed-touches (a .n) (a .b) (a .w) (a .w + 32 * (a .w % 16) - (f .first-element .result + longestWait)) (s .pre .0) (omega arith)
     (omega (arith, f .first-element .ensures, c .before .before .if1 .left))
 
 pub is-listed-spec : {M : Type 1} → statement M

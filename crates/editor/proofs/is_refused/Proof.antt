@@ -6,10 +6,6 @@ use Rattle.editor.proofs.Listing.{fails-unlisted, fails-listed}
 use borrow.Author.Needs.{needs}
 use Rattle.editor.proofs.is_refused.Statement.{statement}
 use Rattle.editor.proofs.is_refused.Tie as tie
-use Rattle.editor.proofs.is_refused.Reads as reads
-use Rattle.editor.proofs.is_refused.Lts as lts
-use Rattle.editor.proofs.fails_check.Reads as fails-check-reads
-use Rattle.editor.proofs.is_listed.Reads as is-listed-reads
 
 is-listed-requires : tie.Need-is-listed-requires
 is-listed-requires c κs = search needs

@@ -7,11 +7,6 @@ use Rattle.editor.specs.Parts.{judged}
 use borrow.Author.Needs.{needs}
 use Rattle.editor.proofs.judge.Statement.{statement}
 use Rattle.editor.proofs.judge.Tie as tie
-use Rattle.editor.proofs.judge.Reads as reads
-use Rattle.editor.proofs.judge.Lts as lts
-use Rattle.answer.proofs.buffer_place.Reads as buffer-place-reads
-use Rattle.answer.proofs.granted.Reads as granted-reads
-use Rattle.answer.proofs.refuse.Reads as refuse-reads
 
 refuse-requires : tie.Need-refuse-requires
 refuse-requires c κs = search needs

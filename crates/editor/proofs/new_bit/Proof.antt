@@ -8,11 +8,6 @@ use Rattle.editor.proofs.Remaking.{new-info, new-crc-at, new-mbas-at, n
 use borrow.Author.Needs.{needs}
 use Rattle.editor.proofs.new_bit.Statement.{statement}
 use Rattle.editor.proofs.new_bit.Tie as tie
-use Rattle.editor.proofs.new_bit.Reads as reads
-use Rattle.editor.proofs.new_bit.Lts as lts
-use Rattle.bits.proofs.bit_at.Reads as bit-at-reads
-use Rattle.editor.proofs.add.Reads as add-reads
-use Rattle.editor.proofs.new_info_bit.Reads as new-info-bit-reads
 
 new-info-bit-requires : tie.Need-new-info-bit-requires
 new-info-bit-requires c κs = search needs

@@ -9,10 +9,6 @@ use Rattle.editor.specs.Parts.{newElement}
 use Rattle.editor.proofs.Remaking.{new-element-bits}
 use Rattle.editor.proofs.new_byte.Statement.{statement}
 use Rattle.editor.proofs.new_byte.Tie as tie
-use Rattle.editor.proofs.new_byte.Reads as reads
-use Rattle.editor.proofs.new_byte.Lts as lts
-use Rattle.bits.proofs.wide.Reads as wide-reads
-use Rattle.editor.proofs.new_element_bit.Reads as new-element-bit-reads
 
 abbrev Inv-loop : tie.InvT-loop
 Inv-loop b bits parity scr crc e old j acc₀ a₀ acc a = Packed 8 a (newElement b bits parity crc e old) (8 * j) acc

@@ -6,9 +6,6 @@ use Rattle.bits.proofs.Lists.{Filled, filled-none, filled-more, filled-all}
 use Rattle.editor.specs.Parts.{newElement}
 use Rattle.editor.proofs.new_element.Statement.{statement}
 use Rattle.editor.proofs.new_element.Tie as tie
-use Rattle.editor.proofs.new_element.Reads as reads
-use Rattle.editor.proofs.new_element.Lts as lts
-use Rattle.editor.proofs.new_byte.Reads as new-byte-reads
 
 abbrev Inv-loop : tie.InvT-loop
 Inv-loop b bits parity scr crc e old r₀ j₀ r j = Filled j (byteOf (newElement b bits parity crc e old)) r₀ r

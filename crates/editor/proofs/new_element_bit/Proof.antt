@@ -2,15 +2,12 @@
 use Prim.Native.Nat.{_+_, _*_, _%_}
 use mathlib.Core.Path.{ap, _∙_}
 use denote.Ref.{now}
+use Rattle.line.specs.Sizes.{elementBits, fecElements, superElements}
 use Rattle.editor.specs.Edit.{elementLocal}
 use Rattle.editor.specs.Parts.{newBit, newElement}
 use borrow.Author.Needs.{needs}
 use Rattle.editor.proofs.new_element_bit.Statement.{statement}
 use Rattle.editor.proofs.new_element_bit.Tie as tie
-use Rattle.editor.proofs.new_element_bit.Reads as reads
-use Rattle.editor.proofs.new_element_bit.Lts as lts
-use Rattle.bits.proofs.bit_at.Reads as bit-at-reads
-use Rattle.editor.proofs.new_bit.Reads as new-bit-reads
 
 mul-new-bit : tie.Need-mul-new-bit
 mul-new-bit c = search needs
@@ -35,7 +32,7 @@ unfolding newElement elementLocal
 returns c =
     let a = c .before .before .before .before .before .args in
     c .new-bit .ensures
-    ∙ ap (newBit (a .b) (now (a .bits)) (now (a .parity)) (a .crc) (119 * (a .e % 10976 % 2194) + a .i) (119 * (a .e % 10976) + a .i)) (c .before .bit-at .ensures)
+    ∙ ap (newBit (a .b) (now (a .bits)) (now (a .parity)) (a .crc) (elementBits * (a .e % superElements % fecElements) + a .i) (elementBits * (a .e % superElements) + a .i)) (c .before .bit-at .ensures)
 
 pub new-element-bit-spec : {M : Type 1} → statement M
 new-element-bit-spec =

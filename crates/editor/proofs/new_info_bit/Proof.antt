@@ -8,10 +8,6 @@ use Rattle.editor.proofs.Touching.{block-in, block-before, block-past}
 use borrow.Author.Needs.{needs}
 use Rattle.editor.proofs.new_info_bit.Statement.{statement}
 use Rattle.editor.proofs.new_info_bit.Tie as tie
-use Rattle.editor.proofs.new_info_bit.Reads as reads
-use Rattle.editor.proofs.new_info_bit.Lts as lts
-use Rattle.bits.proofs.bit_at.Reads as bit-at-reads
-use Rattle.editor.proofs.add.Reads as add-reads
 
 mul-from : tie.Need-mul-from
 mul-from c = search needs

@@ -10,12 +10,6 @@ use Rattle.editor.proofs.Remaking.{made-whole, made-slowly}
 use borrow.Author.Needs.{needs}
 use Rattle.editor.proofs.new_word.Statement.{statement}
 use Rattle.editor.proofs.new_word.Tie as tie
-use Rattle.editor.proofs.new_word.Reads as reads
-use Rattle.editor.proofs.new_word.Lts as lts
-use Rattle.editor.proofs.new_element.Reads as new-element-reads
-use Rattle.editor.proofs.parity_element.Reads as parity-element-reads
-use Rattle.hamming.proofs.encode_by.Reads as encode-by-reads
-use Rattle.line.proofs.element_in.Reads as element-in-reads
 
 element-in-requires : tie.Need-element-in-requires
 element-in-requires c κs = search needs

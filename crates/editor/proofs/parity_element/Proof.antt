@@ -7,10 +7,6 @@ use Rattle.editor.proofs.Remaking.{parity-sum}
 use borrow.Author.Needs.{needs}
 use Rattle.editor.proofs.parity_element.Statement.{statement}
 use Rattle.editor.proofs.parity_element.Tie as tie
-use Rattle.editor.proofs.parity_element.Reads as reads
-use Rattle.editor.proofs.parity_element.Lts as lts
-use Rattle.bits.proofs.word_from.Reads as word-from-reads
-use Rattle.line.proofs.sum.Reads as sum-reads
 
 mul-at : tie.Need-mul-at
 mul-at c = search needs

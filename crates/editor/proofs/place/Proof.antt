@@ -3,8 +3,6 @@ use Rattle.line.specs.Words.{symbolPlace}
 use borrow.Author.Needs.{needs}
 use Rattle.editor.proofs.place.Statement.{statement}
 use Rattle.editor.proofs.place.Tie as tie
-use Rattle.editor.proofs.place.Reads as reads
-use Rattle.editor.proofs.place.Lts as lts
 
 mul-result : tie.Need-mul-result
 mul-result c = search needs

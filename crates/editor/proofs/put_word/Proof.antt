@@ -7,9 +7,6 @@ use Rattle.bits.proofs.LoopLaws.{Folded, folded-none, folded-more, folded-all}
 use Rattle.editor.specs.Parts.{putSymbol, putWord}
 use Rattle.editor.proofs.put_word.Statement.{statement}
 use Rattle.editor.proofs.put_word.Tie as tie
-use Rattle.editor.proofs.put_word.Reads as reads
-use Rattle.editor.proofs.put_word.Lts as lts
-use Rattle.editor.proofs.place.Reads as place-reads
 
 abbrev Inv-loop : tie.InvT-loop
 Inv-loop capture₀ w v k₀ capture k = Folded (putSymbol w v) capture₀ k capture × (length capture ≡ length capture₀) × (k ≤ 16)

@@ -6,16 +6,11 @@ use denote.Ref.{now}
 use Rattle.bits.specs.Bits.{bitAt}
 use Rattle.line.specs.Words.{wordIn}
 use Rattle.line.proofs.SlotLaws.{slot-lt}
+use Rattle.line.specs.Sizes.{elementBits, fecBits, superElements}
 use Rattle.editor.proofs.Changing.{sequence-bit, received}
 use borrow.Author.Needs.{needs}
 use Rattle.editor.proofs.received_bit.Statement.{statement}
 use Rattle.editor.proofs.received_bit.Tie as tie
-use Rattle.editor.proofs.received_bit.Reads as reads
-use Rattle.editor.proofs.received_bit.Lts as lts
-use Rattle.bits.proofs.bit_at.Reads as bit-at-reads
-use Rattle.editor.proofs.add.Reads as add-reads
-use Rattle.line.proofs.slot.Reads as slot-reads
-use Rattle.editor.proofs.word_bit.Reads as word-bit-reads
 
 mul-k : tie.Need-mul-k
 mul-k c = search needs
@@ -38,8 +33,8 @@ slot-requires c κs = search needs
 word-bit-requires : tie.Need-word-bit-requires
 word-bit-requires c κs =
     let a = c .before .before .args in
-    let k = 261086 * (a .t % 5) + a .i in
-    (omega (arith, c .slot .ensures, slot-lt 8 (10976 * (a .t / 5) + k / 119) (omega arith)), omega arith)
+    let k = fecBits * (a .t % 5) + a .i in
+    (omega (arith, c .slot .ensures, slot-lt 8 (superElements * (a .t / 5) + k / elementBits) (omega arith)), omega arith)
 
 bit-at-requires : tie.Need-bit-at-requires
 bit-at-requires c κs = search needs
@@ -52,12 +47,12 @@ returns c =
     let w = c .before .before .before in
     let s = w .before .before .before in
     let a = s .args in
-    let k = 261086 * (a .t % 5) + a .i in
+    let k = fecBits * (a .t % 5) + a .i in
     c .add .ensures
     ∙ ap₂ (λ (x y : ℕ). (x + y) % 2)
-    (w .word-bit .ensures ∙ ap (λ (x : ℕ). bitAt (wordIn (now (a .capture)) x) (k % 119)) (w .before .slot .ensures))
+    (w .word-bit .ensures ∙ ap (λ (x : ℕ). bitAt (wordIn (now (a .capture)) x) (k % elementBits)) (w .before .slot .ensures))
     (c .before .bit-at .ensures ∙ sequence-bit (now (a .scr)) k (s .pre .0))
-    ∙ received (wordIn (now (a .capture))) (a .t) (a .i) k (10976 * (a .t / 5) + k / 119) refl refl
+    ∙ received (wordIn (now (a .capture))) (a .t) (a .i) k (superElements * (a .t / 5) + k / elementBits) refl refl
 
 pub received-bit-spec : {M : Type 1} → statement M
 received-bit-spec =

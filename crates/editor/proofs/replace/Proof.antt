@@ -3,12 +3,6 @@ use native.Mathlib.Omega.{arith}
 use borrow.Author.Needs.{needs}
 use Rattle.editor.proofs.replace.Statement.{statement}
 use Rattle.editor.proofs.replace.Tie as tie
-use Rattle.editor.proofs.replace.Reads as reads
-use Rattle.editor.proofs.replace.Lts as lts
-use Rattle.editor.proofs.crc_change.Reads as crc-change-reads
-use Rattle.editor.proofs.rewrite.Reads as rewrite-reads
-use Rattle.hamming.proofs.tail_table.Reads as tail-table-reads
-use Rattle.scrambler.proofs.fill.Reads as fill-reads
 
 slice-aggregate-fill : tie.Need-slice-aggregate-fill
 slice-aggregate-fill c = search needs

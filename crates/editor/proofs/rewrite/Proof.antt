@@ -3,17 +3,12 @@ use Prim.Native.Nat.{_-_, _≤_}
 use native.Mathlib.Omega.{arith}
 use denote.Ref.{now}
 use Rattle.line.specs.Sizes.{words}
-use Rattle.editor.specs.Parts.{stretchFrom, stretchTo, Passing}
+use Rattle.editor.specs.Parts.{stretchTo, Passing}
 use Rattle.editor.proofs.Listing.{listed-outside, stretch-in}
 use Rattle.editor.proofs.Passes.{passing-start, passing-skip, passing-long, passing-entries, passing-few, passing-turn}
 use borrow.Author.Needs.{needs}
 use Rattle.editor.proofs.rewrite.Statement.{statement}
 use Rattle.editor.proofs.rewrite.Tie as tie
-use Rattle.editor.proofs.rewrite.Reads as reads
-use Rattle.editor.proofs.rewrite.Lts as lts
-use Rattle.editor.proofs.stretch_from.Reads as stretch-from-reads
-use Rattle.editor.proofs.stretch_to.Reads as stretch-to-reads
-use Rattle.editor.proofs.turn.Reads as turn-reads
 
 abbrev Inv-loop : tie.InvT-loop
 Inv-loop n b bits parity scr t tails crc capture₀ list₀ c₀ w₀ w-end capture list c w = Passing n b bits parity capture₀ list₀ w capture list c × (w ≤ stretchTo b)

@@ -6,9 +6,6 @@ use Rattle.editor.proofs.Answers.{spare-test}
 use borrow.Author.Needs.{needs}
 use Rattle.editor.proofs.spare_set.Statement.{statement}
 use Rattle.editor.proofs.spare_set.Tie as tie
-use Rattle.editor.proofs.spare_set.Reads as reads
-use Rattle.editor.proofs.spare_set.Lts as lts
-use Rattle.bits.proofs.byte_at.Reads as byte-at-reads
 
 byte-at-requires : tie.Need-byte-at-requires
 byte-at-requires c κs = search needs

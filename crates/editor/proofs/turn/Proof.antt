@@ -8,12 +8,6 @@ use Rattle.editor.proofs.Passes.{turned-yes, turned-no}
 use borrow.Author.Needs.{needs}
 use Rattle.editor.proofs.turn.Statement.{statement}
 use Rattle.editor.proofs.turn.Tie as tie
-use Rattle.editor.proofs.turn.Reads as reads
-use Rattle.editor.proofs.turn.Lts as lts
-use Rattle.editor.proofs.is_listed.Reads as is-listed-reads
-use Rattle.editor.proofs.new_word.Reads as new-word-reads
-use Rattle.editor.proofs.put_word.Reads as put-word-reads
-use Rattle.line.proofs.word_in.Reads as word-in-reads
 
 is-listed-requires : tie.Need-is-listed-requires
 is-listed-requires c κs = search needs

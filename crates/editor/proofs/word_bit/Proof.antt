@@ -9,10 +9,6 @@ use Rattle.editor.proofs.Changing.{word-bit}
 use borrow.Author.Needs.{needs}
 use Rattle.editor.proofs.word_bit.Statement.{statement}
 use Rattle.editor.proofs.word_bit.Tie as tie
-use Rattle.editor.proofs.word_bit.Reads as reads
-use Rattle.editor.proofs.word_bit.Lts as lts
-use Rattle.bits.proofs.bit_at.Reads as bit-at-reads
-use Rattle.editor.proofs.place.Reads as place-reads
 
 place-requires : tie.Need-place-requires
 place-requires c κs = search needs

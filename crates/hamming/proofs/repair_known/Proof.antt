@@ -7,11 +7,6 @@ use Rattle.hamming.specs.Repair.{repairAt}
 use borrow.Author.Needs.{needs}
 use Rattle.hamming.proofs.repair_known.Statement.{statement}
 use Rattle.hamming.proofs.repair_known.Tie as tie
-use Rattle.hamming.proofs.repair_known.Reads as reads
-use Rattle.hamming.proofs.repair_known.Lts as lts
-use Rattle.bits.proofs.byte_at.Reads as byte-at-reads
-use Rattle.hamming.proofs.index.Reads as index-reads
-use Rattle.hamming.proofs.repair_at.Reads as repair-at-reads
 
 index-requires : tie.Need-index-requires
 index-requires c κs = search needs

@@ -5,11 +5,6 @@ use Rattle.hamming.specs.Lent.{sumBy}
 use borrow.Author.Needs.{needs}
 use Rattle.line.proofs.checks_in.Statement.{statement}
 use Rattle.line.proofs.checks_in.Tie as tie
-use Rattle.line.proofs.checks_in.Reads as reads
-use Rattle.line.proofs.checks_in.Lts as lts
-use Rattle.hamming.proofs.checks_by.Reads as checks-by-reads
-use Rattle.line.proofs.checks_inside.Reads as checks-inside-reads
-use Rattle.line.proofs.word_in.Reads as word-in-reads
 
 checks-inside-requires : tie.Need-checks-inside-requires
 checks-inside-requires c κs = search needs

@@ -11,9 +11,6 @@ use Rattle.line.specs.Words.{symbolPlace, wordIn}
 use Rattle.line.proofs.WordLaws.{word-symbol}
 use Rattle.line.proofs.checks_inside.Statement.{statement}
 use Rattle.line.proofs.checks_inside.Tie as tie
-use Rattle.line.proofs.checks_inside.Reads as reads
-use Rattle.line.proofs.checks_inside.Lts as lts
-use Rattle.bits.proofs.wide.Reads as wide-reads
 
 abbrev Inv-loop : tie.InvT-loop
 Inv-loop t capture w at sum₀ k₀ sum k = Summed (entryAt t (wordIn capture w)) 16 k sum

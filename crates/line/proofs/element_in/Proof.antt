@@ -4,9 +4,6 @@ use Rattle.line.specs.Slots.{elementIn}
 use borrow.Author.Needs.{needs}
 use Rattle.line.proofs.element_in.Statement.{statement}
 use Rattle.line.proofs.element_in.Tie as tie
-use Rattle.line.proofs.element_in.Reads as reads
-use Rattle.line.proofs.element_in.Lts as lts
-use Rattle.line.proofs.wait.Reads as wait-reads
 
 wait-requires : tie.Need-wait-requires
 wait-requires c κs = search needs

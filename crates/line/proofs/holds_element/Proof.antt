@@ -4,9 +4,6 @@ use native.Mathlib.Omega.{arith}
 use borrow.Author.Needs.{needs}
 use Rattle.line.proofs.holds_element.Statement.{statement}
 use Rattle.line.proofs.holds_element.Tie as tie
-use Rattle.line.proofs.holds_element.Reads as reads
-use Rattle.line.proofs.holds_element.Lts as lts
-use Rattle.line.proofs.wait.Reads as wait-reads
 
 wait-requires : tie.Need-wait-requires
 wait-requires c κs = search needs

@@ -4,8 +4,6 @@ use Rattle.line.specs.Fec.{mbasOf}
 use borrow.Author.Needs.{needs}
 use Rattle.line.proofs.mbas.Statement.{statement}
 use Rattle.line.proofs.mbas.Tie as tie
-use Rattle.line.proofs.mbas.Reads as reads
-use Rattle.line.proofs.mbas.Lts as lts
 
 add-result : tie.Need-add-result
 add-result c = search needs

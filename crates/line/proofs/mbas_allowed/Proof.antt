@@ -3,8 +3,6 @@ use mathlib.Core.Path.{refl}
 use Rattle.line.specs.Fec.{mbasAllowed}
 use Rattle.line.proofs.mbas_allowed.Statement.{statement}
 use Rattle.line.proofs.mbas_allowed.Tie as tie
-use Rattle.line.proofs.mbas_allowed.Reads as reads
-use Rattle.line.proofs.mbas_allowed.Lts as lts
 
 returns : tie.Need-returns
 unfolding mbasAllowed

@@ -4,8 +4,6 @@ use Rattle.line.specs.Slots.{slotOf, delay}
 use borrow.Author.Needs.{needs}
 use Rattle.line.proofs.slot.Statement.{statement}
 use Rattle.line.proofs.slot.Tie as tie
-use Rattle.line.proofs.slot.Reads as reads
-use Rattle.line.proofs.slot.Lts as lts
 
 sub-result : tie.Need-sub-result
 sub-result c = search needs

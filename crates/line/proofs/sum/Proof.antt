@@ -10,8 +10,6 @@ use Rattle.bits.proofs.LoopLaws.{loops}
 use Rattle.bits.proofs.Xor.{element-xor}
 use Rattle.line.proofs.sum.Statement.{statement}
 use Rattle.line.proofs.sum.Tie as tie
-use Rattle.line.proofs.sum.Reads as reads
-use Rattle.line.proofs.sum.Lts as lts
 
 abbrev Inv-loop : tie.InvT-loop
 Inv-loop a b r₀ k₀ r k = Filled k (byteOf (added (bitAt a) (bitAt b))) r₀ r

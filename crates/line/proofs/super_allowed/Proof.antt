@@ -3,8 +3,6 @@ use Rattle.bits.proofs.LoopLaws.{tests}
 use Rattle.line.specs.Captures.{superAllowed}
 use Rattle.line.proofs.super_allowed.Statement.{statement}
 use Rattle.line.proofs.super_allowed.Tie as tie
-use Rattle.line.proofs.super_allowed.Reads as reads
-use Rattle.line.proofs.super_allowed.Lts as lts
 
 returns : tie.Need-returns
 unfolding superAllowed

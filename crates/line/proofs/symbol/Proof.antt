@@ -9,8 +9,6 @@ use Rattle.line.specs.Words.{symbolPlace}
 use borrow.Author.Needs.{needs}
 use Rattle.line.proofs.symbol.Statement.{statement}
 use Rattle.line.proofs.symbol.Tie as tie
-use Rattle.line.proofs.symbol.Reads as reads
-use Rattle.line.proofs.symbol.Lts as lts
 
 returns : tie.Need-returns
 unfolding symbolPlace

@@ -4,8 +4,6 @@ use Rattle.line.specs.Slots.{delay}
 use borrow.Author.Needs.{needs}
 use Rattle.line.proofs.wait.Statement.{statement}
 use Rattle.line.proofs.wait.Tie as tie
-use Rattle.line.proofs.wait.Reads as reads
-use Rattle.line.proofs.wait.Lts as lts
 
 sub-result : tie.Need-sub-result
 sub-result c = search needs

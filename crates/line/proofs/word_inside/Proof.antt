@@ -9,8 +9,6 @@ use Rattle.bits.proofs.LoopLaws.{loops}
 use Rattle.line.specs.Words.{symbolPlace, wordIn, symbolOf}
 use Rattle.line.proofs.word_inside.Statement.{statement}
 use Rattle.line.proofs.word_inside.Tie as tie
-use Rattle.line.proofs.word_inside.Reads as reads
-use Rattle.line.proofs.word_inside.Lts as lts
 
 abbrev Inv-loop : tie.InvT-loop
 Inv-loop capture w at r₀ k₀ r k = Filled k (symbolOf capture w) r₀ r

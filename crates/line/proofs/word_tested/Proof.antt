@@ -5,9 +5,6 @@ use Rattle.bits.proofs.LoopLaws.{loops}
 use Rattle.line.specs.Words.{wordIn, symbolOf}
 use Rattle.line.proofs.word_tested.Statement.{statement}
 use Rattle.line.proofs.word_tested.Tie as tie
-use Rattle.line.proofs.word_tested.Reads as reads
-use Rattle.line.proofs.word_tested.Lts as lts
-use Rattle.line.proofs.symbol.Reads as symbol-reads
 
 abbrev Inv-loop : tie.InvT-loop
 Inv-loop capture w r₀ k₀ r k = Filled k (symbolOf capture w) r₀ r

@@ -5,6 +5,7 @@ use native.Mathlib.Omega.{arith}
 use lib.ListN.{length, take, drop, length-take, length-drop}
 use Rattle.bits.specs.Bits.{byteOf}
 use Rattle.bits.proofs.Lists.{Filled, filled-none, filled-to, filled-all}
+use Rattle.windows.specs.Windows.{pairBytes}
 use Rattle.mapping.specs.Groups.{groupsBit}
 use Rattle.windows.proofs.Judging.{data-window}
 use borrow.Author.Needs.{needs}
@@ -13,7 +14,7 @@ use Rattle.mapping.proofs.fill_groups.Statement.{statement}
 use Rattle.mapping.proofs.fill_groups.Tie as tie
 
 abbrev Inv-loop : tie.InvT-loop
-Inv-loop c f n window groups₀ d p₀ p-end groups p = Filled (min (257 * p) (length groups₀)) (byteOf (groupsBit c f n window)) groups₀ groups × (p ≤ (d + 1) / 2)
+Inv-loop c f n window groups₀ d p₀ p-end groups p = Filled (min (pairBytes * p) (length groups₀)) (byteOf (groupsBit c f n window)) groups₀ groups × (p ≤ (d + 1) / 2)
 
 abbrev μ-loop : tie.MeasureT-loop
 μ-loop c f n window groups₀ d p₀ p-end groups p = (d + 1) / 2 - p
@@ -61,8 +62,8 @@ loop-again c =
     let t = c .before .before .before .before .before .before .loop in
     let e = c .before .before .before .before .least .result in
     let w = data-window _ _ _ (c .before .before .before .before .before .before .before .before .before .before .pre .0) in
-    let l : length (take (e - 257 * t .p) (drop (257 * t .p) (t .groups))) ≡ e - 257 * t .p = simp (length-take, length-drop) (omega arith) in (
-      filled-to _ (filled-part _ e (filled-to (257 * t .p) (t .inv .0) (omega arith)) (omega arith) (omega arith) (c .before .before .fill-two .ensures)) (omega arith),
+    let l : length (take (e - pairBytes * t .p) (drop (pairBytes * t .p) (t .groups))) ≡ e - pairBytes * t .p = simp (length-take, length-drop) (omega arith) in (
+      filled-to _ (filled-part _ e (filled-to (pairBytes * t .p) (t .inv .0) (omega arith)) (omega arith) (omega arith) (c .before .before .fill-two .ensures)) (omega arith),
       omega arith,
     )
 

@@ -4,13 +4,14 @@ use native.Mathlib.Omega.{arith}
 use lib.ListN.{length-take, length-drop}
 use Rattle.bits.specs.Bits.{byteOf}
 use Rattle.bits.proofs.Lists.{Filled, filled-none, filled-to, filled-all}
+use Rattle.windows.specs.Windows.{pairBytes}
 use Rattle.mapping.specs.Groups.{windowBit}
 use Rattle.mapping.proofs.Pairs.{filled-part}
 use Rattle.mapping.proofs.fill_window.Statement.{statement}
 use Rattle.mapping.proofs.fill_window.Tie as tie
 
 abbrev Inv-loop : tie.InvT-loop
-Inv-loop c f n groups window₀ p₀ p-end window p = Filled (257 * p) (byteOf (windowBit c f groups)) window₀ window × (p ≤ n / 2)
+Inv-loop c f n groups window₀ p₀ p-end window p = Filled (pairBytes * p) (byteOf (windowBit c f groups)) window₀ window × (p ≤ n / 2)
 
 abbrev μ-loop : tie.MeasureT-loop
 μ-loop c f n groups window₀ p₀ p-end window p = n / 2 - p
@@ -45,7 +46,7 @@ loop-less c = omega arith
 loop-again : tie.Need-loop-again Inv-loop μ-loop
 loop-again c =
     let t = c .before .before .before .before .before .loop in (
-      filled-to (257 * (t .p + 1)) (filled-part 257 (257 * t .p + 257) (t .inv .0) (omega arith) (omega arith) (c .before .before .fill-places .ensures)) (omega arith),
+      filled-to (pairBytes * (t .p + 1)) (filled-part pairBytes (pairBytes * t .p + pairBytes) (t .inv .0) (omega arith) (omega arith) (c .before .before .fill-places .ensures)) (omega arith),
       omega arith,
     )
 

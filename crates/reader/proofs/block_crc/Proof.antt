@@ -4,6 +4,7 @@ use mathlib.Core.Path.{_∙_}
 use denote.Ref.{now}
 use Rattle.bits.specs.Bits.{bitAt, from}
 use Rattle.bits.proofs.Packing.{bitOf-lt}
+use Rattle.line.specs.Sizes.{fecBits, infoBytes}
 use Rattle.reader.proofs.Pieces.{crc-packed}
 use borrow.Author.Needs.{needs}
 use Rattle.reader.proofs.block_crc.Statement.{statement}
@@ -28,7 +29,7 @@ returns : tie.Need-returns
 returns c =
     let s = c .before .before .before .before .before .before in
     let a = s .args in
-    c .crc .ensures ∙ crc-packed (now (a .crcs)) _ 30583 (from (bitAt (now (a .s))) (261086 * a .b)) (λ i. bitOf-lt 8 (now (a .s)) (261086 * a .b + i)) (s .pre .0) (c .before .before .before .copy .ensures)
+    c .crc .ensures ∙ crc-packed (now (a .crcs)) _ infoBytes (from (bitAt (now (a .s))) (fecBits * a .b)) (λ i. bitOf-lt 8 (now (a .s)) (fecBits * a .b + i)) (s .pre .0) (c .before .before .before .copy .ensures)
 
 pub block-crc-spec : {M : Type 1} → statement M
 block-crc-spec =

@@ -7,9 +7,6 @@ use Rattle.line.proofs.WordLaws.{word-bytes}
 use borrow.Author.Needs.{needs}
 use Rattle.reader.proofs.checks.Statement.{statement}
 use Rattle.reader.proofs.checks.Tie as tie
-use Rattle.reader.proofs.checks.Reads as reads
-use Rattle.reader.proofs.checks.Lts as lts
-use Rattle.line.proofs.checks_in.Reads as checks-in-reads
 
 checks-in-requires : tie.Need-checks-in-requires
 checks-in-requires c κs = search needs

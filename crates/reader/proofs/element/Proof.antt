@@ -3,18 +3,11 @@ use mathlib.Core.Path.{sym, ap, _∙_}
 use denote.Ref.{now}
 use Rattle.hamming.specs.Code.{checksOf}
 use Rattle.hamming.specs.Repair.{repairOf}
-use Rattle.line.specs.Words.{wordIn}
 use Rattle.reader.specs.Read.{repaired}
 use Rattle.reader.proofs.Pieces.{word-of, word-kept}
 use borrow.Author.Needs.{needs}
 use Rattle.reader.proofs.element.Statement.{statement}
 use Rattle.reader.proofs.element.Tie as tie
-use Rattle.reader.proofs.element.Reads as reads
-use Rattle.reader.proofs.element.Lts as lts
-use Rattle.line.proofs.slot.Reads as slot-reads
-use Rattle.line.proofs.word_in.Reads as word-in-reads
-use Rattle.reader.proofs.checks.Reads as checks-reads
-use Rattle.reader.proofs.repair_word.Reads as repair-word-reads
 
 cast-slot : tie.Need-cast-slot
 cast-slot c = search needs

@@ -4,6 +4,7 @@ use mathlib.Core.Path.{refl, ap₂, _≡_, ap, _∙_}
 use lib.ListN.{take, drop, length}
 use Rattle.bits.proofs.Packing.{length-packs}
 use Rattle.scrambler.specs.Scrambler.{o}
+use Rattle.line.specs.Sizes.{superBytes, superElements}
 use Rattle.reader.specs.Parts.{followed, plainByte, startOf}
 use Rattle.reader.proofs.Places.{element-byte, part-long, filled-part}
 use native.Mathlib.Omega.{arith}
@@ -18,10 +19,10 @@ use Rattle.reader.proofs.frame.Statement.{statement}
 use Rattle.reader.proofs.frame.Tie as tie
 
 abbrev Inv-loop : tie.InvT-loop
-Inv-loop t positions scr capture f out₀ here₀ l₀ out here l = Filled (startOf l) (byteOf (superIn (repaired capture) f)) out₀ out × (here ≡ repaired capture (slotOf (10976 * f + l))) × (l ≤ 10976)
+Inv-loop t positions scr capture f out₀ here₀ l₀ out here l = Filled (startOf l) (byteOf (superIn (repaired capture) f)) out₀ out × (here ≡ repaired capture (slotOf (superElements * f + l))) × (l ≤ superElements)
 
 abbrev μ-loop : tie.MeasureT-loop
-μ-loop t positions scr capture f out₀ here₀ l₀ out here l = 10976 - l
+μ-loop t positions scr capture f out₀ here₀ l₀ out here l = superElements - l
 
 mul-element : tie.Need-mul-element Inv-loop μ-loop
 mul-element c = search needs
@@ -74,7 +75,7 @@ part-put-bytes-start c = search needs
 part-put-bytes-end : tie.Need-part-put-bytes-end Inv-loop μ-loop
 part-put-bytes-end c =
     let s = c .before .before .before .before .before .before .before .before in
-    let h : length (now (s .args .scr)) ≡ 163268 = ap length (s .pre .1) ∙ length-packs 8 163268 o in search needs
+    let h : length (now (s .args .scr)) ≡ superBytes = ap length (s .pre .1) ∙ length-packs 8 superBytes o in search needs
 
 sub-put-bytes-2 : tie.Need-sub-put-bytes-2 Inv-loop μ-loop
 sub-put-bytes-2 c = search needs
@@ -116,7 +117,7 @@ same-length : tie.Need-same-length Inv-loop μ-loop
 same-length c = search needs
 
 returns : tie.Need-returns Inv-loop μ-loop
-returns c = filled-all 163268 (c .before .loop .inv .0) (omega arith) (search needs)
+returns c = filled-all superBytes (c .before .loop .inv .0) (omega arith) (search needs)
 
 pub frame-spec : {M : Type 1} → statement M
 frame-spec =

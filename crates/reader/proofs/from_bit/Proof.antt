@@ -8,9 +8,6 @@ use Rattle.bits.proofs.LoopLaws.{loops}
 use Rattle.reader.proofs.Pieces.{zeros-behind}
 use Rattle.reader.proofs.from_bit.Statement.{statement}
 use Rattle.reader.proofs.from_bit.Tie as tie
-use Rattle.reader.proofs.from_bit.Reads as reads
-use Rattle.reader.proofs.from_bit.Lts as lts
-use Rattle.bits.proofs.word_from.Reads as word-from-reads
 
 abbrev Inv-loop : tie.InvT-loop
 Inv-loop i v w₀ k₀ w k = Filled k (λ j. getD v j 0) w₀ w × (k ≤ 16)

@@ -4,6 +4,7 @@ use denote.Ref.{now}
 use Rattle.bits.specs.Bits.{bitAt}
 use Rattle.bits.proofs.Numbers.{num-front}
 use Rattle.bits.proofs.Packing.{bitOf-lt}
+use Rattle.line.specs.Sizes.{fecBits, mbasFrom}
 use Rattle.reader.specs.Parts.{mbasOff}
 use borrow.Author.Needs.{needs}
 use Rattle.reader.proofs.is_mbas_off.Statement.{statement}
@@ -26,7 +27,7 @@ unfolding mbasOff
 returns c =
     let a = c .before .before .before .args in
     let s = now (a .s) in
-    rw (c .before .byte-from .ensures, c .mbas .ensures, num-front 6 2 (bitAt s) (261086 * a .b + 244696) (bitOf-lt 8 s))
+    rw (c .before .byte-from .ensures, c .mbas .ensures, num-front 6 2 (bitAt s) (fecBits * a .b + mbasFrom) (bitOf-lt 8 s))
 
 pub is-mbas-off-spec : {M : Type 1} → statement M
 is-mbas-off-spec =

@@ -1,12 +1,8 @@
 -- `reader::is_plain` meets its contract. Assumes nothing.
-use mathlib.Core.Path.{_∙_}
 use borrow.Author.Tests.{eq-eqb, ne-eqb}
 use borrow.Author.Needs.{needs}
 use Rattle.reader.proofs.is_plain.Statement.{statement}
 use Rattle.reader.proofs.is_plain.Tie as tie
-use Rattle.reader.proofs.is_plain.Reads as reads
-use Rattle.reader.proofs.is_plain.Lts as lts
-use Rattle.line.proofs.holds_element.Reads as holds-element-reads
 
 holds-element-requires : tie.Need-holds-element-requires
 holds-element-requires c κs = search needs

@@ -6,6 +6,7 @@ use native.Mathlib.Omega.{arith}
 use borrow.Author.Tests.{eq-eqb, ne-eqb, not-false}
 use Rattle.line.specs.Captures.{superAllowed}
 use Rattle.line.specs.Fec.{mbasAllowed}
+use Rattle.line.specs.Sizes.{fillerBytes, superCaptureBytes, superInfoBytes, superParityBytes}
 use Rattle.reader.specs.Parts.{judged}
 use Rattle.reader.proofs.Judging.{few-of}
 use borrow.Author.Needs.{needs}
@@ -42,7 +43,7 @@ unfolding judged
 returns-2 c =
     let a = c .before .before .before .before .before .args in
     let e : not (superAllowed (a .n) && mbasAllowed (a .m0)) ≡ false = sym (c .before .before .before .before .is-outside .ensures) ∙ c .before .before .before .if1 .left in
-    rw (c .refuse2 .ensures, c .before .buffer-place .ensures, e, ne-eqb (a .capture-len) (175616 * a .n + 7680) (c .before .before .if2 .taken))
+    rw (c .refuse2 .ensures, c .before .buffer-place .ensures, e, ne-eqb (a .capture-len) (superCaptureBytes * a .n + fillerBytes) (c .before .before .if2 .taken))
 
 mul-if3 : tie.Need-mul-if3
 mul-if3 c = search needs
@@ -58,7 +59,7 @@ unfolding judged
 returns-3 c =
     let a = c .before .before .before .before .before .before .args in
     let e : not (superAllowed (a .n) && mbasAllowed (a .m0)) ≡ false = sym (c .before .before .before .before .before .is-outside .ensures) ∙ c .before .before .before .before .if1 .left in
-    rw (c .refuse3 .ensures, c .before .buffer-place2 .ensures, e, eq-eqb (a .capture-len) (175616 * a .n + 7680) (c .before .before .before .if2 .left), ne-eqb (a .info-len) (152915 * a .n) (c .before .before .if3 .taken))
+    rw (c .refuse3 .ensures, c .before .buffer-place2 .ensures, e, eq-eqb (a .capture-len) (superCaptureBytes * a .n + fillerBytes) (c .before .before .before .if2 .left), ne-eqb (a .info-len) (superInfoBytes * a .n) (c .before .before .if3 .taken))
 
 mul-if4 : tie.Need-mul-if4
 mul-if4 c = search needs
@@ -74,7 +75,7 @@ unfolding judged
 returns-4 c =
     let a = c .before .before .before .before .before .before .before .args in
     let e : not (superAllowed (a .n) && mbasAllowed (a .m0)) ≡ false = sym (c .before .before .before .before .before .before .is-outside .ensures) ∙ c .before .before .before .before .before .if1 .left in
-    rw (c .refuse4 .ensures, c .before .buffer-place3 .ensures, e, eq-eqb (a .capture-len) (175616 * a .n + 7680) (c .before .before .before .before .if2 .left), eq-eqb (a .info-len) (152915 * a .n) (c .before .before .before .if3 .left), ne-eqb (a .parity-len) (10240 * a .n) (c .before .before .if4 .taken))
+    rw (c .refuse4 .ensures, c .before .buffer-place3 .ensures, e, eq-eqb (a .capture-len) (superCaptureBytes * a .n + fillerBytes) (c .before .before .before .before .if2 .left), eq-eqb (a .info-len) (superInfoBytes * a .n) (c .before .before .before .if3 .left), ne-eqb (a .parity-len) (superParityBytes * a .n) (c .before .before .if4 .taken))
 
 granted-requires : tie.Need-granted-requires
 granted-requires c κs = search needs
@@ -84,7 +85,7 @@ unfolding judged
 returns-5 c =
     let a = c .before .before .before .before .before .before .args in
     let e : not (superAllowed (a .n) && mbasAllowed (a .m0)) ≡ false = sym (c .before .before .before .before .before .is-outside .ensures) ∙ c .before .before .before .before .if1 .left in
-    rw (c .granted .ensures, e, eq-eqb (a .capture-len) (175616 * a .n + 7680) (c .before .before .before .if2 .left), eq-eqb (a .info-len) (152915 * a .n) (c .before .before .if3 .left), eq-eqb (a .parity-len) (10240 * a .n) (c .before .if4 .left))
+    rw (c .granted .ensures, e, eq-eqb (a .capture-len) (superCaptureBytes * a .n + fillerBytes) (c .before .before .before .if2 .left), eq-eqb (a .info-len) (superInfoBytes * a .n) (c .before .before .if3 .left), eq-eqb (a .parity-len) (superParityBytes * a .n) (c .before .if4 .left))
 
 pub judge-spec : {M : Type 1} → statement M
 judge-spec =

@@ -11,9 +11,6 @@ use Rattle.reader.specs.Parts.{plainByte}
 use Rattle.reader.proofs.Pieces.{byte-behind}
 use Rattle.reader.proofs.put_bytes.Statement.{statement}
 use Rattle.reader.proofs.put_bytes.Tie as tie
-use Rattle.reader.proofs.put_bytes.Reads as reads
-use Rattle.reader.proofs.put_bytes.Lts as lts
-use Rattle.reader.proofs.from_bit.Reads as from-bit-reads
 
 abbrev Inv-loop : tie.InvT-loop
 Inv-loop i scr out₀ x k₀ k-end out k = Filled k (λ j. bitXor (getD x j 0) (getD scr j 0)) out₀ out

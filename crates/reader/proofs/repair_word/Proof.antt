@@ -5,9 +5,6 @@ use Rattle.hamming.proofs.Tabled.{by-known}
 use borrow.Author.Needs.{needs}
 use Rattle.reader.proofs.repair_word.Statement.{statement}
 use Rattle.reader.proofs.repair_word.Tie as tie
-use Rattle.reader.proofs.repair_word.Reads as reads
-use Rattle.reader.proofs.repair_word.Lts as lts
-use Rattle.hamming.proofs.repair_known.Reads as repair-known-reads
 
 repair-known-requires : tie.Need-repair-known-requires
 repair-known-requires c κs = search needs

@@ -17,17 +17,6 @@ use Rattle.reader.proofs.Searching.{seen-le, word-more, beyond-is, fill
 use borrow.Author.Needs.{needs}
 use Rattle.reader.proofs.take_word.Statement.{statement}
 use Rattle.reader.proofs.take_word.Tie as tie
-use Rattle.reader.proofs.take_word.Reads as reads
-use Rattle.reader.proofs.take_word.Lts as lts
-use Rattle.hamming.proofs.number.Reads as number-reads
-use Rattle.line.proofs.word_in.Reads as word-in-reads
-use Rattle.reader.proofs.checks.Reads as checks-reads
-use Rattle.reader.proofs.is_filled.Reads as is-filled-reads
-use Rattle.reader.proofs.is_found.Reads as is-found-reads
-use Rattle.reader.proofs.is_plain.Reads as is-plain-reads
-use Rattle.reader.proofs.one_if.Reads as one-if-reads
-use Rattle.reader.proofs.repair_word.Reads as repair-word-reads
-use Rattle.reader.proofs.sought.Reads as sought-reads
 
 checks-requires : tie.Need-checks-requires
 checks-requires c κs = search needs

@@ -4,16 +4,17 @@ use mathlib.Core.Path.{_≡_, _∙_, ap}
 use denote.Ref.{now}
 use native.Mathlib.Omega.{arith}
 use borrow.Author.Needs.{needs}
+use Rattle.line.specs.Sizes.{longestWait, superElements}
 use Rattle.reader.specs.Parts.{wordsTo}
 use Rattle.reader.proofs.Searching.{words-none}
 use Rattle.reader.proofs.tally_words.Statement.{statement}
 use Rattle.reader.proofs.tally_words.Tie as tie
 
 abbrev Inv-loop : tie.InvT-loop
-Inv-loop t positions n capture s₀ w₀ w-end s w = (s ≡ wordsTo n capture w) × (w ≤ 10976 * n + 480)
+Inv-loop t positions n capture s₀ w₀ w-end s w = (s ≡ wordsTo n capture w) × (w ≤ superElements * n + longestWait)
 
 abbrev μ-loop : tie.MeasureT-loop
-μ-loop t positions n capture s₀ w₀ w-end s w = 10976 * n + 480 - w
+μ-loop t positions n capture s₀ w₀ w-end s w = superElements * n + longestWait - w
 
 mul-w-end : tie.Need-mul-w-end Inv-loop μ-loop
 mul-w-end c = search needs

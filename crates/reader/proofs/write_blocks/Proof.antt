@@ -1,6 +1,7 @@
 -- `reader::write_blocks` meets its contract: a block a turn. Assumes nothing.
 use lib.ListN.{length, take, drop}
 use Rattle.bits.specs.Bits.{bitAt, from, byteOf}
+use Rattle.line.specs.Sizes.{fecBits, infoBytes, parityBytes, parityFrom, superInfoBytes, superParityBytes}
 use Rattle.reader.proofs.Places.{info-byte, parity-byte, part-long, filled-part}
 use Prim.Native.Nat.{_+_, _-_, _*_, _≤_}
 use native.Mathlib.Omega.{arith}
@@ -12,7 +13,7 @@ use Rattle.reader.proofs.write_blocks.Statement.{statement}
 use Rattle.reader.proofs.write_blocks.Tie as tie
 
 abbrev Inv-loop : tie.InvT-loop
-Inv-loop s info₀ parity₀ b₀ info parity b = Filled (30583 * b) (byteOf (infoIn s)) info₀ info × Filled (2048 * b) (byteOf (parityIn s)) parity₀ parity × (b ≤ 5)
+Inv-loop s info₀ parity₀ b₀ info parity b = Filled (infoBytes * b) (byteOf (infoIn s)) info₀ info × Filled (parityBytes * b) (byteOf (parityIn s)) parity₀ parity × (b ≤ 5)
 
 abbrev μ-loop : tie.MeasureT-loop
 μ-loop s info₀ parity₀ b₀ info parity b = 5 - b
@@ -75,13 +76,13 @@ loop-again : tie.Need-loop-again Inv-loop μ-loop
 loop-again c =
     let h = c .before .before .before .before .before .before .before .before .before .loop in
     let s = now (c .before .before .before .before .before .before .before .before .before .before .before .before .before .args .s) in
-    let i = 30583 * h .b in
-    let p = 2048 * h .b in
-    let ki = i + 30583 - i in
-    let kp = p + 2048 - p in (
-      filled-part ki (30583 * (h .b + 1)) (length (take ki (drop i (h .info)))) (byteOf (from (bitAt s) (261086 * h .b)))
+    let i = infoBytes * h .b in
+    let p = parityBytes * h .b in
+    let ki = i + infoBytes - i in
+    let kp = p + parityBytes - p in (
+      filled-part ki (infoBytes * (h .b + 1)) (length (take ki (drop i (h .info)))) (byteOf (from (bitAt s) (fecBits * h .b)))
           (h .inv .0) (omega arith) (omega arith) (part-long i ki (h .info) (omega arith)) (c .before .before .before .before .before .before .copy .ensures) (λ j l. info-byte s (h .b) j (omega arith)),
-      filled-part kp (2048 * (h .b + 1)) (length (take kp (drop p (h .parity)))) (byteOf (from (bitAt s) (261086 * h .b + 244702)))
+      filled-part kp (parityBytes * (h .b + 1)) (length (take kp (drop p (h .parity)))) (byteOf (from (bitAt s) (fecBits * h .b + parityFrom)))
           (h .inv .1) (omega arith) (omega arith) (part-long p kp (h .parity) (omega arith)) (c .before .before .copy2 .ensures) (λ j l. parity-byte s (h .b) j (omega arith)),
       omega arith,
     )
@@ -95,7 +96,7 @@ same-length-2 c = search needs
 returns : tie.Need-returns Inv-loop μ-loop
 returns c =
     let i = c .before .loop .inv in
-    (filled-all 152915 (i .0) (omega arith) (search needs), filled-all 10240 (i .1) (omega arith) (search needs))
+    (filled-all superInfoBytes (i .0) (omega arith) (search needs), filled-all superParityBytes (i .1) (omega arith) (search needs))
 
 pub write-blocks-spec : {M : Type 1} → statement M
 write-blocks-spec =

@@ -8,7 +8,7 @@ use lib.ListN.{length}
 use borrow.Author.Needs.{needs}
 use Rattle.bits.specs.Bits.{byteOf}
 use Rattle.bits.proofs.Lists.{Filled, filled-none, filled-all}
-use Rattle.line.specs.Sizes.{superBytes}
+use Rattle.line.specs.Sizes.{superBytes, superInfoBytes, superParityBytes}
 use Rattle.line.specs.Frames.{infoOf, parityOf}
 use Rattle.line.specs.Words.{fecIn}
 use Rattle.reader.specs.Read.{repaired}
@@ -16,7 +16,7 @@ use Rattle.reader.proofs.write_frames.Statement.{statement}
 use Rattle.reader.proofs.write_frames.Tie as tie
 
 abbrev Inv-loop : tie.InvT-loop
-Inv-loop t positions scr n capture buffer₀ info₀ parity₀ f₀ buffer info parity f = Filled (152915 * f) (byteOf (infoAll (fecIn (repaired capture)))) info₀ info × Filled (10240 * f) (byteOf (parityAll (fecIn (repaired capture)))) parity₀ parity × (f ≤ n) × (length buffer ≡ superBytes)
+Inv-loop t positions scr n capture buffer₀ info₀ parity₀ f₀ buffer info parity f = Filled (superInfoBytes * f) (byteOf (infoAll (fecIn (repaired capture)))) info₀ info × Filled (superParityBytes * f) (byteOf (parityAll (fecIn (repaired capture)))) parity₀ parity × (f ≤ n) × (length buffer ≡ superBytes)
 
 abbrev μ-loop : tie.MeasureT-loop
 μ-loop t positions scr n capture buffer₀ info₀ parity₀ f₀ buffer info parity f = n - f
@@ -71,12 +71,12 @@ loop-again c =
     let h = c .before .before .before .before .before .before .before .before .before .before .before .before .before .loop in
     let a = c .before .before .before .before .before .before .before .before .before .before .before .before .before .before .before .before .before .before .before .args in
     let cap = now (a .capture) in
-    let i = 152915 * h .f in
-    let p = 10240 * h .f in
+    let i = superInfoBytes * h .f in
+    let p = superParityBytes * h .f in
     let e = c .before .before .before .before .before .before .before .before .before .before .frame .ensures in
     let w = c .before .before .before .before .write-blocks .ensures in (
-      filled-part (i + 152915 - i) (152915 * (h .f + 1)) 152915 _ (h .inv .0) (omega arith) (omega arith) (omega arith) (w .0) (λ j l. info-whole cap _ (h .f) j e (omega arith)),
-      filled-part (p + 10240 - p) (10240 * (h .f + 1)) 10240 _ (h .inv .1) (omega arith) (omega arith) (omega arith) (w .1) (λ j l. parity-whole cap _ (h .f) j e (omega arith)),
+      filled-part (i + superInfoBytes - i) (superInfoBytes * (h .f + 1)) superInfoBytes _ (h .inv .0) (omega arith) (omega arith) (omega arith) (w .0) (λ j l. info-whole cap _ (h .f) j e (omega arith)),
+      filled-part (p + superParityBytes - p) (superParityBytes * (h .f + 1)) superParityBytes _ (h .inv .1) (omega arith) (omega arith) (omega arith) (w .1) (λ j l. parity-whole cap _ (h .f) j e (omega arith)),
       omega arith,
       search needs,
     )

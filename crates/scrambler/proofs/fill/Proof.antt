@@ -5,10 +5,6 @@ use Rattle.scrambler.proofs.Strides.{stride-1, stride-4, stride-16, str
 use borrow.Author.Needs.{needs}
 use Rattle.scrambler.proofs.fill.Statement.{statement}
 use Rattle.scrambler.proofs.fill.Tie as tie
-use Rattle.scrambler.proofs.fill.Reads as reads
-use Rattle.scrambler.proofs.fill.Lts as lts
-use Rattle.scrambler.proofs.begin.Reads as begin-reads
-use Rattle.scrambler.proofs.go_on.Reads as go-on-reads
 
 begin-requires : tie.Need-begin-requires
 begin-requires c κs = search needs

@@ -1,8 +1,8 @@
 -- `go_on` meets its contract: what is filled reaches far enough back for the sum of four. Assumes nothing.
 use Prim.Native.Nat.{ℕ, _-_, _*_, _≤_, _<_}
-use mathlib.Core.Path.{_≡_, refl, _∙_}
+use mathlib.Core.Path.{_≡_, refl}
 use native.Mathlib.Omega.{arith}
-use lib.ListN.{length, getD}
+use lib.ListN.{getD}
 use Rattle.bits.specs.Bits.{byteOf}
 use Rattle.bits.proofs.Lists.{Filled, filled-more, filled-at, filled-to}
 use Rattle.bits.proofs.LoopLaws.{loops}
@@ -10,8 +10,6 @@ use Rattle.scrambler.specs.Scrambler.{o}
 use Rattle.scrambler.proofs.Strides.{next-sum, opened-begun}
 use Rattle.scrambler.proofs.go_on.Statement.{statement}
 use Rattle.scrambler.proofs.go_on.Tie as tie
-use Rattle.scrambler.proofs.go_on.Reads as reads
-use Rattle.scrambler.proofs.go_on.Lts as lts
 
 abbrev Inv-loop : tie.InvT-loop
 Inv-loop out₀ s m k₀ out k = (16 * s ≤ k) × (k ≤ m) × Filled k (byteOf o) out₀ out
