@@ -1,8 +1,8 @@
 -- The bits of a list of w-bit elements and the elements made of bits, over the width. Assumes nothing.
 use Prim.Native.Nat.{ℕ, zero, suc, _+_, _-_, _*_, _/_, _%_, _^_, _≤_, _<_}
 use mathlib.Core.Path.{_≡_, refl, sym, ap, _∙_}
-use mathlib.Core.List.{List}
-use native.Mathlib.Nat.{add-zero, mul-comm, div-eq-of-lt, mod-lt, mul-add-div, mul-add-mod-self-left, mod-eq-of-lt, div-lt-iff-lt-mul, div-add-mod, zero-mul, zero-div, mul-le-mul-left, mul-add, mul-one, add-comm, add-assoc}
+use mathlib.Core.List.{List, [], _∷_}
+use native.Mathlib.Nat.{add-zero, mul-comm, div-eq-of-lt, mod-lt, mul-add-div, mul-add-mod-self-left, mod-eq-of-lt, div-lt-iff-lt-mul, div-add-mod, zero-mul, zero-div, mul-le-mul-left, mul-zero, mul-one, zero-add, add-comm, add-assoc}
 use native.Mathlib.Omega.{arith}
 use lib.ListN.{length, getD, take, drop, replicate, List·getD-eq-default}
 use lib.Seq.{getD-take, getD-drop}
@@ -64,28 +64,43 @@ packs-ext w n f g h =
     tabulate-ext n (λ k. num w f (w * k)) (λ k. num w g (w * k))
     (λ k l. num-ext w f g (w * k) (w * k) (λ j m. h (w * k + j) (below w n k j l m)))
 
--- w bits from any bit on, out of the two elements that hold them: no bit is taken one by one
-pub num-window : (w : ℕ) (s : List ℕ) (i a b : ℕ) → 0 < w → a < 2 ^ w → b < 2 ^ w → a ≡ getD s (i / w) 0 → b ≡ getD s (i / w + 1) 0
-    → (a * 2 ^ w + b) / 2 ^ (w - i % w) % 2 ^ w ≡ num w (bitOf w s) i
-num-window w s i a b p ha hb ea eb =
-    let f = bitOf w s in
-    let q = i / w in
-    let r = i % w in
-    let m : r < w = mod-lt i p in
-    let next : w * (q + 1) ≡ w * q + w = mul-add w q 1 ∙ rw mul-one in
-    let top : a ≡ num w f (w * q) = ea ∙ sym (num-bitOf w s q (rw ea at ha)) in
-    let low : b ≡ num w f (w * q + w) = eb ∙ sym (num-bitOf w s (q + 1) (rw eb at hb)) ∙ ap (num w f) next in
-    let whole : a * 2 ^ w + b ≡ num (w + w) f (w * q) = rw (top, low) (sym (num-split w w f (w * q))) in
+-- w bits from bit r on of two elements, by one division: no bit is taken one by one
+pub two-window : (w a b r : ℕ) → r < w → a < 2 ^ w → b < 2 ^ w → (a * 2 ^ w + b) / 2 ^ (w - r) % 2 ^ w ≡ num w (bitOf w (a ∷ b ∷ [])) r
+two-window w a b r l ha hb =
+    let f = bitOf w (a ∷ b ∷ []) in
+    let top : a ≡ num w f 0 = sym (num-bitOf w (a ∷ b ∷ []) 0 ha) ∙ ap (num w f) (mul-zero w) in
+    let low : b ≡ num w f (0 + w) = sym (num-bitOf w (a ∷ b ∷ []) 1 hb) ∙ ap (num w f) (mul-one w ∙ sym (zero-add w)) in
+    let whole : a * 2 ^ w + b ≡ num (w + w) f 0 = ap (λ (x : ℕ). x * 2 ^ w + b) top ∙ ap (λ (y : ℕ). num w f 0 * 2 ^ w + y) low ∙ sym (num-split w w f 0) in
     let cut : w + w ≡ (r + w) + (w - r) = omega arith in
-    rw (whole, cut, num-front (r + w) (w - r) f (w * q) (bitOf-lt w s), num-back r w f (w * q) (bitOf-lt w s), div-add-mod)
+    rw (whole, cut, num-front (r + w) (w - r) f 0 (bitOf-lt w (a ∷ b ∷ [])), num-back r w f 0 (bitOf-lt w (a ∷ b ∷ [])), zero-add)
+
+-- elements n and n + 1 of a list
+two-of : (s : List ℕ) (n a b x : ℕ) → x < 2 → a ≡ getD s n 0 → b ≡ getD s (n + 1) 0 → getD (a ∷ b ∷ []) x 0 ≡ getD s (n + x) 0
+two-of s n a b zero h p q = rw add-zero p
+two-of s n a b (suc zero) h p q = q
+two-of s n a b (suc (suc x)) h p q = absurd (omega arith)
+
+-- w bits from bit i on stand in two elements
+pub num-two : (w : ℕ) (s : List ℕ) (i a b : ℕ) → 0 < w → a ≡ getD s (i / w) 0 → b ≡ getD s (i / w + 1) 0
+    → num w (bitOf w (a ∷ b ∷ [])) (i % w) ≡ num w (bitOf w s) i
+unfolding bitOf
+num-two w s i a b p ea eb =
+    num-ext w (bitOf w (a ∷ b ∷ [])) (bitOf w s) (i % w) i
+    (λ j l.
+    let x = i % w + j in
+    let e : i + j ≡ w * (i / w) + x = ap (λ (y : ℕ). y + j) (sym (div-add-mod i w)) ∙ add-assoc (w * (i / w)) (i % w) j in
+    let d : (i + j) / w ≡ i / w + x / w = ap (λ (y : ℕ). y / w) e ∙ mul-add-div p (i / w) x in
+    let m : (i + j) % w ≡ x % w = ap (λ (y : ℕ). y % w) e ∙ mul-add-mod-self-left w (i / w) x in
+    let few : x / w < 2 = div-lt-iff-lt-mul p .1 (omega (arith, mod-lt i p)) in
+    rw (d, m) (ap (λ (y : ℕ). digit w y (x % w)) (two-of s (i / w) a b (x / w) few ea eb)))
 
 -- the same, k elements further on, as a loop takes them that goes on from bit i
-pub num-window-from : (w : ℕ) (s : List ℕ) (i k a b : ℕ) → 0 < w → a < 2 ^ w → b < 2 ^ w → a ≡ getD s (i / w + k) 0 → b ≡ getD s (i / w + k + 1) 0
-    → (a * 2 ^ w + b) / 2 ^ (w - i % w) % 2 ^ w ≡ num w (from (bitOf w s) i) (w * k)
-num-window-from w s i k a b p ha hb ea eb =
+pub num-two-from : (w : ℕ) (s : List ℕ) (i k a b : ℕ) → 0 < w → a ≡ getD s (i / w + k) 0 → b ≡ getD s (i / w + k + 1) 0
+    → num w (bitOf w (a ∷ b ∷ [])) (i % w) ≡ num w (from (bitOf w s) i) (w * k)
+num-two-from w s i k a b p ea eb =
     let q : (i + w * k) / w ≡ i / w + k = ap (λ (x : ℕ). x / w) (add-comm i (w * k)) ∙ mul-add-div p k i ∙ add-comm k (i / w) in
     let r : (i + w * k) % w ≡ i % w = ap (λ (x : ℕ). x % w) (add-comm i (w * k)) ∙ mul-add-mod-self-left w k i in
-    let e = num-window w s (i + w * k) a b p ha hb (rw q ea) (rw q eb) in
+    let e = num-two w s (i + w * k) a b p (rw q ea) (rw q eb) in
     (rw r at e) ∙ num-ext w (bitOf w s) (from (bitOf w s) i) (i + w * k) (w * k) (λ j l. ap (bitOf w s) (add-assoc i (w * k) j))
 
 -- the bits of a part of a list are bits of the list

@@ -1,9 +1,10 @@
 // Packed bits. Every function takes any slice and any number: past the end there are zeros.
 ghost use mathlib.Core.Path.{_≡_};
-ghost use Prim.Native.Nat.{_+_, _/_, _≤_, _<_};
-ghost use lib.ListN.{length, getD};
-ghost use Rattle.bits.specs.Bits.{num, bitAt, pack, from};
-ghost use Rattle.bits.specs.Posts.{Widened, EightOf};
+ghost use Prim.Native.Nat.{_%_};
+ghost use mathlib.Core.List.{[], _∷_};
+ghost use lib.ListN.{getD};
+ghost use Rattle.bits.specs.Bits.{num, bitAt};
+ghost use Rattle.bits.specs.Posts.{Widened};
 
 // Byte k of the bytes s; 0 past the end.
 pub fn byte_at(s: &[u8], k: usize) -> u8
@@ -26,12 +27,11 @@ pub fn wide(x: u8) -> u32
     x as u32
 }
 
-// The eight bits that begin 8 - down bits into the byte a and go on in b.
-fn eight_of(a: u8, b: u8, down: u32) -> u8
-    requires { ⌜ down ≤ 8 ⌝ }
-    ensures { λ r. ⌜ EightOf a b down r ⌝ }
+// The eight bits of two bytes, a and then b, that begin at the place of bit i in its byte.
+pub fn eight_of(a: u8, b: u8, i: usize) -> u8
+    ensures { λ r. ⌜ r ≡ num 8 (bitAt (a ∷ b ∷ [])) (i % 8) ⌝ }
 {
-    (((wide(a) * 256 + wide(b)) >> down) % 256) as u8
+    (((wide(a) * 256 + wide(b)) >> (8 - i % 8)) % 256) as u8
 }
 
 // The eight bits from bit i on, wherever they stand; zeros past the end.
@@ -39,48 +39,5 @@ pub fn byte_from(s: &[u8], i: usize) -> u8
     ensures { λ r. ⌜ r ≡ num 8 (bitAt (now (s .entry))) i ⌝ }
 {
     let k = i / 8;
-    eight_of(byte_at(s, k), byte_at(s, k + 1), (8 - i % 8) as u32)
-}
-
-// Fills out with the bits from bit i on, where the slice reaches past them: no byte is tested.
-fn copy_inside(s: &[u8], i: usize, out: &mut [u8])
-    requires { ⌜ i / 8 + length (now out) < length (now s) ⌝ }
-    ensures { λ _. ⌜ now (out .exit) ≡ pack (length (now (out .entry))) (from (bitAt (now (s .entry))) i) ⌝ }
-{
-    let first = i / 8;
-    let down = (8 - i % 8) as u32;
-    for k in 0..out.len() {
-        out[k] = eight_of(s[first + k], s[first + k + 1], down);
-    }
-}
-
-// The same anywhere.
-fn copy_tested(s: &[u8], i: usize, out: &mut [u8])
-    ensures { λ _. ⌜ now (out .exit) ≡ pack (length (now (out .entry))) (from (bitAt (now (s .entry))) i) ⌝ }
-{
-    let first = i / 8;
-    let down = (8 - i % 8) as u32;
-    for k in 0..out.len() {
-        out[k] = eight_of(byte_at(s, first + k), byte_at(s, first + k + 1), down);
-    }
-}
-
-// Fills out with the bits from bit i on, wherever they stand; zeros past the end.
-pub fn copy(s: &[u8], i: usize, out: &mut [u8])
-    ensures { λ _. ⌜ now (out .exit) ≡ pack (length (now (out .entry))) (from (bitAt (now (s .entry))) i) ⌝ }
-{
-    if i / 8 + out.len() < s.len() {
-        copy_inside(s, i, out);
-    } else {
-        copy_tested(s, i, out);
-    }
-}
-
-// The sixteen bytes of the 128 bits from bit i on, wherever they stand; zeros past the end.
-pub fn word_from(s: &[u8], i: usize) -> [u8; 16]
-    ensures { λ r. ⌜ r ≡ pack 16 (from (bitAt (now (s .entry))) i) ⌝ }
-{
-    let mut r = [0u8; 16];
-    copy(s, i, &mut r);
-    r
+    eight_of(byte_at(s, k), byte_at(s, k + 1), i)
 }

@@ -171,7 +171,7 @@ fn word(
     }
     let e = line::element_in(w);
     let plain = plain_element(n, m0, info, parity, crcs, e);
-    let mask = bits::word_from(sequence, line::ELEMENT_BITS * (e % line::SUPER_ELEMENTS));
+    let mask = copies::word_from(sequence, line::ELEMENT_BITS * (e % line::SUPER_ELEMENTS));
     hamming::encode_by(table, tails, line::sum(plain, mask))
 }
 
@@ -194,7 +194,7 @@ fn plain_element(
     let t = line::FEC_BLOCKS * (e / line::SUPER_ELEMENTS) + l / line::FEC_ELEMENTS;
     let m = l % line::FEC_ELEMENTS;
     if m < line::INFO_ELEMENTS {
-        return bits::word_from(info, line::INFO_BITS * t + line::ELEMENT_BITS * m);
+        return copies::word_from(info, line::INFO_BITS * t + line::ELEMENT_BITS * m);
     }
     if m == line::INFO_ELEMENTS {
         return tail_element(
@@ -204,7 +204,7 @@ fn plain_element(
             line::PARITY_BITS * t,
         );
     }
-    bits::word_from(
+    copies::word_from(
         parity,
         line::PARITY_BITS * t + (line::ELEMENT_BITS * (m - line::INFO_ELEMENTS) - GUARD_BITS),
     )

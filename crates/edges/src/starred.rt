@@ -28,10 +28,10 @@ fn say_word(name: &[u8], w: [u8; 16]) {
 // The pad is zero before scrambling, so that the scrambled pad is the sequence itself.
 fn sequence() {
     let s = scrambler::sequence();
-    say_word(b"scrambler from bit 0 on: ", bits::word_from(&s, 0));
+    say_word(b"scrambler from bit 0 on: ", copies::word_from(&s, 0));
     say_word(
         b"scrambled pad from bit 0 on: ",
-        bits::word_from(&s, 1305430),
+        copies::word_from(&s, 1305430),
     );
 }
 

@@ -216,7 +216,9 @@ fn received_bit(capture: &[u8], scr: &[u8; PERIOD_BYTES], t: usize, i: usize) ->
     ensures { λ r. ⌜ r ≡ fecIn (wordIn (now (capture .entry))) t i ⌝ }
 {
     let k = line::FEC_BITS * (t % line::FEC_BLOCKS) + i;
-    let w = line::slot((line::SUPER_ELEMENTS * (t / line::FEC_BLOCKS) + k / line::ELEMENT_BITS) as u32);
+    let w = line::slot(
+        (line::SUPER_ELEMENTS * (t / line::FEC_BLOCKS) + k / line::ELEMENT_BITS) as u32,
+    );
     add(
         word_bit(capture, w, k % line::ELEMENT_BITS),
         bits::bit_at(scr, k % scrambler::PERIOD),
@@ -379,8 +381,8 @@ fn parity_element(parity: &[u8], scr: &[u8; PERIOD_BYTES], e: usize) -> [u8; 16]
     let l = e % line::SUPER_ELEMENTS;
     let at = line::ELEMENT_BITS * (l % line::FEC_ELEMENTS) - line::PARITY_FROM;
     line::sum(
-        bits::word_from(parity, at),
-        bits::word_from(scr, line::ELEMENT_BITS * l % scrambler::PERIOD),
+        copies::word_from(parity, at),
+        copies::word_from(scr, line::ELEMENT_BITS * l % scrambler::PERIOD),
     )
 }
 

@@ -351,7 +351,7 @@ fn wrong_words() {
 fn put_word(g: Generator, w: usize, capture: &mut [u8]) -> Generator {
     let mut e = [0u8; 15];
     let next = made::fill(g, &mut e);
-    damage::turn(capture, w, hamming::encode(bits::word_from(&e, 0)));
+    damage::turn(capture, w, hamming::encode(copies::word_from(&e, 0)));
     next
 }
 

@@ -327,7 +327,7 @@ fn from_bit(v: [u8; 16], i: usize) -> [u8; 16]
     for k in 0..16 {
         w[k] = v[k];
     }
-    bits::word_from(&w, i)
+    copies::word_from(&w, i)
 }
 
 // The bytes from bit i of v on, the scrambler's bytes added.
@@ -371,7 +371,7 @@ fn long_from(s: &[u8], at: usize) -> u32
     requires { ⌜ at < 2 ^ 32 ⌝ }
     ensures { λ r. ⌜ r ≡ num 32 (bitAt (now (s .entry))) at ⌝ }
 {
-    let w = bits::word_from(s, at);
+    let w = copies::word_from(s, at);
     ((bits::wide(w[0]) * 256 + bits::wide(w[1])) * 256 + bits::wide(w[2])) * 256 + bits::wide(w[3])
 }
 
@@ -389,7 +389,7 @@ fn block_crc(crcs: &[u32; 256], s: &[u8], b: usize) -> u32
     ensures { λ r. ⌜ r ≡ crcOf infoBits (from (bitAt (now (s .entry))) (fecBits * b)) ⌝ }
 {
     let mut block = [0u8; line::INFO_BYTES];
-    bits::copy(s, line::FEC_BITS * b, &mut block);
+    copies::copy(s, line::FEC_BITS * b, &mut block);
     crc::crc(crcs, &block)
 }
 
@@ -497,8 +497,8 @@ fn write_blocks(s: &[u8], info: &mut [u8], parity: &mut [u8])
     for b in 0..line::FEC_BLOCKS {
         let i = line::INFO_BYTES * b;
         let p = line::PARITY_BYTES * b;
-        bits::copy(s, line::FEC_BITS * b, &mut info[i..i + line::INFO_BYTES]);
-        bits::copy(
+        copies::copy(s, line::FEC_BITS * b, &mut info[i..i + line::INFO_BYTES]);
+        copies::copy(
             s,
             line::FEC_BITS * b + line::PARITY_FROM,
             &mut parity[p..p + line::PARITY_BYTES],

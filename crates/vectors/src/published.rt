@@ -15,7 +15,7 @@ fn byte(x: u8) {
 fn scrambler() {
     said::text(b"scrambler bits 0 to 23: ");
     let s = scrambler::sequence();
-    let w = bits::word_from(&s, 0);
+    let w = copies::word_from(&s, 0);
     byte(w[0]);
     byte(w[1]);
     byte(w[2]);

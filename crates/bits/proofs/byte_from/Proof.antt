@@ -2,7 +2,7 @@
 use mathlib.Core.Path.{_∙_}
 use native.Mathlib.Omega.{arith}
 use denote.Ref.{now}
-use Rattle.bits.proofs.Packing.{num-window}
+use Rattle.bits.proofs.Packing.{num-two}
 use borrow.Author.Needs.{needs}
 use Rattle.bits.proofs.byte_from.Statement.{statement}
 use Rattle.bits.proofs.byte_from.Tie as tie
@@ -16,20 +16,13 @@ add-byte-at c = search needs
 byte-at-requires-2 : tie.Need-byte-at-requires-2
 byte-at-requires-2 c κs = search needs
 
-sub-eight-of : tie.Need-sub-eight-of
-sub-eight-of c = search needs
-
-cast-eight-of : tie.Need-cast-eight-of
-cast-eight-of c = search needs
-
 eight-of-requires : tie.Need-eight-of-requires
 eight-of-requires c κs = search needs
 
 returns : tie.Need-returns
 returns c =
     let a = c .before .before .before .before .args in
-    let e = c .eight-of .ensures in
-    e .is ∙ num-window 8 (now (a .s)) (a .i) _ _ (omega arith) (e .high) (e .low) (c .before .before .byte-at .ensures) (c .before .byte-at2 .ensures)
+    c .eight-of .ensures ∙ num-two 8 (now (a .s)) (a .i) _ _ (omega arith) (c .before .before .byte-at .ensures) (c .before .byte-at2 .ensures)
 
 pub byte-from-spec : {M : Type 1} → statement M
 byte-from-spec =
@@ -38,7 +31,5 @@ byte-from-spec =
     byte-at-requires
     add-byte-at
     byte-at-requires-2
-    sub-eight-of
-    cast-eight-of
     eight-of-requires
     returns)

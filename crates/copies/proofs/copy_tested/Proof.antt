@@ -1,27 +1,21 @@
--- `bits::copy_tested` meets its contract: a byte a turn. Assumes nothing.
+-- `copies::copy_tested` meets its contract: a byte a turn. Assumes nothing.
 use Prim.Native.Nat.{_-_}
 use mathlib.Core.Path.{_∙_}
 use native.Mathlib.Omega.{arith}
 use denote.Ref.{now}
 use lib.ListN.{length}
 use Rattle.bits.specs.Bits.{bitAt, byteOf, from}
 use Rattle.bits.proofs.Lists.{Filled, filled-more}
 use Rattle.bits.proofs.LoopLaws.{loops}
-use Rattle.bits.proofs.Packing.{num-window-from}
-use Rattle.bits.proofs.copy_tested.Statement.{statement}
-use Rattle.bits.proofs.copy_tested.Tie as tie
+use Rattle.bits.proofs.Packing.{num-two-from}
+use Rattle.copies.proofs.copy_tested.Statement.{statement}
+use Rattle.copies.proofs.copy_tested.Tie as tie
 
 abbrev Inv-loop : tie.InvT-loop
-Inv-loop s i out₀ first down k₀ k-end out k = Filled k (byteOf (from (bitAt s) i)) out₀ out
+Inv-loop s i out₀ first k₀ k-end out k = Filled k (byteOf (from (bitAt s) i)) out₀ out
 
 abbrev μ-loop : tie.MeasureT-loop
-μ-loop s i out₀ first down k₀ k-end out k = length out₀ - k
-
-sub-down : tie.Need-sub-down Inv-loop μ-loop
-sub-down c = search loops
-
-cast-down : tie.Need-cast-down Inv-loop μ-loop
-cast-down c = search loops
+μ-loop s i out₀ first k₀ k-end out k = length out₀ - k
 
 loop-holds : tie.Need-loop-holds Inv-loop μ-loop
 loop-holds c = search loops
@@ -57,8 +51,7 @@ loop-again : tie.Need-loop-again Inv-loop μ-loop
 loop-again c =
     let h = c .before .before .before .before .loop in
     let a = c .before .before .before .before .before .before .before .args in
-    let e = c .eight-of .ensures in
-    filled-more (h .inv) (c .before .before .before .loop-test .taken) (e .is ∙ num-window-from 8 (now (a .s)) (a .i) (h .k) _ _ (omega arith) (e .high) (e .low) (c .before .before .byte-at .ensures) (c .before .byte-at2 .ensures))
+    filled-more (h .inv) (c .before .before .before .loop-test .taken) (c .eight-of .ensures ∙ num-two-from 8 (now (a .s)) (a .i) (h .k) _ _ (omega arith) (c .before .before .byte-at .ensures) (c .before .byte-at2 .ensures))
 
 same-length : tie.Need-same-length Inv-loop μ-loop
 same-length c = search loops
@@ -72,8 +65,6 @@ copy-tested-spec =
     (tie.spec
     Inv-loop
     μ-loop
-    sub-down
-    cast-down
     loop-holds
     add-byte-at
     byte-at-requires

@@ -1,0 +1,2 @@
+-- What `copies` promises, once.
+pub mod Unique
