@@ -8,9 +8,10 @@ use lib.ListN.{getD, replicate}
 use Rattle.bits.specs.Bits.{tabulate, bitAt, pack, from, added}
 use Rattle.bits.proofs.Lists.{getD-tabulate, tabulate-ext}
 use Rattle.bits.proofs.Packing.{bitOf-lt, bitOf-packs}
-use Rattle.hamming.specs.Lent.{byteTable, tailTable, wordBy}
+use Rattle.matrix.specs.Sums.{tailTable}
+use Rattle.lent.specs.Lent.{byteTable, wordBy}
 use Rattle.hamming.proofs.Words.{coded-ext, coded-zero}
-use Rattle.hamming.proofs.Tabled.{by-word}
+use Rattle.lent.proofs.Tabled.{by-word}
 use Rattle.scrambler.specs.Scrambler.{o}
 use Rattle.scrambler.proofs.Rule.{o-lt}
 use Rattle.symbols.specs.Group.{symbolAt, laidByte, laidGroup}

@@ -9,7 +9,8 @@ use Rattle.bits.specs.Bits.{digit, pack}
 use Rattle.answer.specs.Numbers.{outsideSet, wrongLength}
 use Rattle.answer.specs.Rows.{done, refused, bufferPlace}
 use Rattle.answer.specs.declared.Answer.{Answer}
-use Rattle.hamming.specs.Lent.{byteTable, tailTable}
+use Rattle.matrix.specs.Sums.{tailTable}
+use Rattle.lent.specs.Lent.{byteTable}
 use Rattle.scrambler.specs.Scrambler.{o}
 use Rattle.line.specs.Sizes.{elementBits, superElements, superBytes, infoLength, parityLength, captureLength, words}
 use Rattle.line.specs.Captures.{superAllowed}

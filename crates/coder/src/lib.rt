@@ -70,8 +70,8 @@ fn code_all(n: usize, m0: u64, info: &[u8], parity: &[u8], capture: &mut [u8])
 {
     let crcs = block_crcs(n, info);
     let sequence = scrambler::sequence();
-    let table = hamming::byte_table();
-    let tails = hamming::tail_table();
+    let table = lent::byte_table();
+    let tails = matrix::tail_table();
     write_groups(
         n,
         m0,
@@ -172,7 +172,7 @@ fn word(
     let e = line::element_in(w);
     let plain = plain_element(n, m0, info, parity, crcs, e);
     let mask = copies::word_from(sequence, line::ELEMENT_BITS * (e % line::SUPER_ELEMENTS));
-    hamming::encode_by(table, tails, line::sum(plain, mask))
+    lent::encode_by(table, tails, line::sum(plain, mask))
 }
 
 // Element e before it is scrambled. Only its 119 bits count: those behind them are of whatever follows.

@@ -13,7 +13,8 @@ use Rattle.answer.specs.Rows.{done, refused, bufferPlace}
 use Rattle.answer.specs.declared.Answer.{Answer}
 use Rattle.scrambler.specs.Scrambler.{o}
 use Rattle.hamming.specs.Code.{coded}
-use Rattle.hamming.specs.Lent.{byteTable, tailTable}
+use Rattle.matrix.specs.Sums.{tailTable}
+use Rattle.lent.specs.Lent.{byteTable}
 use Rattle.line.specs.Sizes.{crcBits, parityFrom, parityBytes, fecBlocks, elementBits, superElements, fecElements, captureLength, longestWait}
 use Rattle.line.specs.Fec.{fields}
 use Rattle.line.specs.Slots.{elementIn}

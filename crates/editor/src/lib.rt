@@ -9,7 +9,7 @@ ghost use Rattle.bits.specs.Bits.{bitAt, byteOf, pack};
 ghost use Rattle.bits.specs.Loops.{first};
 ghost use Rattle.answer.specs.Outcomes.{Outcome};
 ghost use Rattle.hamming.specs.Code.{checksOf};
-ghost use Rattle.hamming.specs.Lent.{byteTable};
+ghost use Rattle.lent.specs.Lent.{byteTable};
 ghost use Rattle.line.specs.Sizes.{blockBits, fecBits, fecBlocks, elementBits, superElements, fecElements, infoElements, captureLength, words};
 ghost use Rattle.line.specs.Slots.{elementIn};
 ghost use Rattle.line.specs.Words.{symbolPlace, wordIn, fecIn};
@@ -403,9 +403,9 @@ fn new_word(
 {
     let e = line::element_in(w);
     if line::INFO_ELEMENTS < e % line::SUPER_ELEMENTS % line::FEC_ELEMENTS {
-        return hamming::encode_by(t, tails, parity_element(parity, scr, e));
+        return lent::encode_by(t, tails, parity_element(parity, scr, e));
     }
-    hamming::encode_by(t, tails, new_element(b, bits, parity, scr, crc, e, &old))
+    lent::encode_by(t, tails, new_element(b, bits, parity, scr, crc, e, &old))
 }
 
 // ---- the pass
@@ -486,7 +486,7 @@ fn replace(
 {
     let mut scr = [0u8; PERIOD_BYTES];
     scrambler::fill(&mut scr);
-    let tails = hamming::tail_table();
+    let tails = matrix::tail_table();
     let crc = crc_change(b, bits, capture, &scr);
     rewrite(n, b, bits, parity, &scr, t, &tails, crc, capture, list)
 }
@@ -503,7 +503,7 @@ fn edit_checked(
     requires { ⌜ Accepted n b (now bits) (now parity) (now capture) (now list) ⌝ }
     ensures { λ r. ⌜ Outcome (editAnswer n b (now (bits .entry)) (now (parity .entry)) (now (capture .entry)) (now (list .entry))) (editLeaves n b (now (bits .entry)) (now (parity .entry)) (now (capture .entry)) (now (list .entry))) r (now (capture .exit), now (list .exit)) ⌝ }
 {
-    let t = hamming::byte_table();
+    let t = lent::byte_table();
     let w = first_refused(n, b, capture, &t);
     if w < line::SUPER_ELEMENTS * n + line::LONGEST_WAIT {
         return answer::refuse(answer::LISTED_FAILS, w as u64);

@@ -1,9 +1,6 @@
--- The laws of the inner code, for every crate above.
-pub mod Sums
-pub mod Matrix
+-- The laws of words, checks and repair, for every crate above.
 pub mod Turning
 pub mod Words
 pub mod Repairs
-pub mod Tabled
-pub mod Doubling
+pub mod ByBytes
 pub mod Unique

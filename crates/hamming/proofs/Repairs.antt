@@ -11,10 +11,10 @@ use lib.ListN.{length}
 use Rattle.bits.proofs.Common.{by-bound, xor-none}
 use Rattle.hamming.specs.declared.Found.the-variants.{Clean, Turned, Beyond}
 use Rattle.hamming.specs.declared.Repaired.{Repaired}
-use Rattle.hamming.specs.Columns.{columnOf, positionOf}
+use Rattle.matrix.specs.Columns.{columnOf, positionOf}
 use Rattle.hamming.specs.Code.{checksOf, turn}
 use Rattle.hamming.specs.Repair.{answer, repairAt, repairOf}
-use Rattle.hamming.proofs.Matrix.{column-odd, column-not-zero, columns-differ, position-column, column-position, no-column-even}
+use Rattle.matrix.proofs.Matrix.{column-odd, column-not-zero, columns-differ, position-column, column-position, no-column-even}
 use Rattle.hamming.proofs.Turning.{turn-long, turn-turn, checks-turn}
 use Rattle.hamming.proofs.Words.{checks-lt}
 

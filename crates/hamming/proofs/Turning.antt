@@ -12,9 +12,9 @@ use Rattle.bits.specs.Bits.{digit, bitOf, bitAt}
 use Rattle.bits.proofs.Common.{agree}
 use Rattle.bits.proofs.Packing.{bitOf-lt}
 use Rattle.bits.proofs.Xor.{xor-cancel, digit-xor}
-use Rattle.hamming.specs.Columns.{columnOf}
+use Rattle.matrix.specs.Columns.{columnOf}
 use Rattle.hamming.specs.Code.{checksOf, turn}
-use Rattle.hamming.proofs.Sums.{unit, unit-same, unit-other, unit-lt, taken-xor, sum-unit}
+use Rattle.matrix.proofs.Sums.{unit, unit-same, unit-other, unit-lt, taken-xor, sum-unit}
 
 -- the digits of the byte 128 / 2 ^ a: the only 1 stands at a. The test goes over the 64 pairs
 pub mark-digit : (a b : ℕ) → a < 8 → b < 8 → digit 8 (128 / 2 ^ a) b ≡ unit a b

@@ -13,9 +13,10 @@ use Rattle.bits.proofs.Common.{by-bound, xor-none}
 use Rattle.bits.proofs.Lists.{getD-tabulate, getD-past}
 use Rattle.bits.proofs.Numbers.{num-lt, digit-num, digit-lt}
 use Rattle.bits.proofs.Packing.{bitOf-lt, bitOf-packs, length-packs, packs-bitOf, packs-ext}
-use Rattle.hamming.specs.Code.{taken, checksOf, elementSum, tailSum, tailOf, joined, joinedWord, coded, wordOf}
-use Rattle.hamming.proofs.Sums.{sum-same, sum-zero, sum-lt, sum-split, taken-same, taken-none, taken-lt}
-use Rattle.hamming.proofs.Matrix.{column-lt, tail-sum, tail-back}
+use Rattle.matrix.specs.Sums.{taken, tailSum, tailOf}
+use Rattle.hamming.specs.Code.{checksOf, elementSum, joined, joinedWord, coded, wordOf}
+use Rattle.matrix.proofs.Sums.{sum-same, sum-zero, sum-lt, sum-split, taken-same, taken-none, taken-lt}
+use Rattle.matrix.proofs.Matrix.{column-lt, tail-sum, tail-back}
 
 -- ---- 119 bits and nine
 

@@ -7,7 +7,7 @@ use lib.Dec.{ltb, eqb}
 use Rattle.hamming.specs.declared.Found.{Found}
 use Rattle.hamming.specs.declared.Found.the-variants.{Clean, Turned, Beyond}
 use Rattle.hamming.specs.declared.Repaired.{Repaired}
-use Rattle.hamming.specs.Columns.{positionOf}
+use Rattle.matrix.specs.Columns.{positionOf}
 use Rattle.hamming.specs.Code.{checksOf, turn}
 
 abbrev pub answer : List ℕ → Found → Repaired

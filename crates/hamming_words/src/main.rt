@@ -108,8 +108,8 @@ fn left_alone(r: Repaired, v: [u8; 16]) -> u64
 
 // A word, repaired by the lent tables.
 fn repaired(t: &[u16; 4096], positions: &[u8; 512], w: [u8; 16]) -> Repaired {
-    let c = hamming::checks_by(t, w);
-    hamming::repair_known(positions, w, c)
+    let c = lent::checks_by(t, w);
+    lent::repair_known(positions, w, c)
 }
 
 // How many of the 128 single flips are put right.
@@ -166,8 +166,8 @@ fn print_rows() {
 fn main() {
     print_words();
     print_rows();
-    let t = hamming::byte_table();
-    let positions = hamming::position_table();
+    let t = lent::byte_table();
+    let positions = matrix::position_table();
     for i in 0..7 {
         print_flips(&t, &positions, word(i));
     }

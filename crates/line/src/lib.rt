@@ -3,7 +3,7 @@ ghost use mathlib.Core.Path.{_≡_};
 ghost use Prim.Native.Nat.{_/_, _<_};
 ghost use lib.ListN.{length, getD};
 ghost use Rattle.bits.specs.Bits.{bitAt, pack, added};
-ghost use Rattle.hamming.specs.Lent.{sumBy};
+ghost use Rattle.lent.specs.Lent.{sumBy};
 ghost use Rattle.line.specs.Captures.{superAllowed};
 ghost use Rattle.line.specs.Fec.{mbasAllowed, mbasOf};
 ghost use Rattle.line.specs.Slots.{slotOf, delay, elementIn, holds};
@@ -202,13 +202,13 @@ fn checks_inside(t: &[u16; 4096], capture: &[u8], w: usize) -> u16
     sum
 }
 
-// The nine checks of word w of a capture, by the lent table of `hamming::byte_table`: a word that passes need not be put together.
+// The nine checks of word w of a capture, by the lent table of `lent::byte_table`: a word that passes need not be put together.
 pub fn checks_in(t: &[u16; 4096], capture: &[u8], w: usize) -> u16
     ensures { λ r. ⌜ r ≡ sumBy (now (t .entry)) (wordIn (now (capture .entry)) w) ⌝ }
 {
     if w / 8 < capture.len() / 128 {
         checks_inside(t, capture, w)
     } else {
-        hamming::checks_by(t, word_in(capture, w))
+        lent::checks_by(t, word_in(capture, w))
     }
 }

@@ -15,7 +15,7 @@ use Rattle.bits.proofs.Counting.{count-more, count-le}
 use Rattle.hamming.specs.declared.Repaired.{Repaired}
 use Rattle.hamming.specs.declared.Found.the-variants.{Clean, Turned, Beyond}
 use Rattle.hamming.specs.Code.{checksOf, turn}
-use Rattle.hamming.specs.Columns.{positionOf}
+use Rattle.matrix.specs.Columns.{positionOf}
 use Rattle.hamming.specs.Repair.{answer, repairAt, repairOf, numberOf}
 use Rattle.line.specs.Slots.{holds}
 use Rattle.line.specs.Words.{wordIn}

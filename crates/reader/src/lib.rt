@@ -14,7 +14,8 @@ ghost use Rattle.answer.specs.Outcomes.{Outcome};
 ghost use Rattle.crc.specs.Crc.{crcOf};
 ghost use Rattle.crc.specs.ByBytes.{entries};
 ghost use Rattle.hamming.specs.Code.{checksOf};
-ghost use Rattle.hamming.specs.Lent.{byteTable, positionTable};
+ghost use Rattle.matrix.specs.Sums.{positionTable};
+ghost use Rattle.lent.specs.Lent.{byteTable};
 ghost use Rattle.hamming.specs.Repair.{repairOf};
 ghost use Rattle.line.specs.Sizes.{infoBits, fecBits, fecBlocks, superBytes, infoLength, parityLength, words};
 ghost use Rattle.line.specs.Captures.{superAllowed};
@@ -100,8 +101,8 @@ fn read_accepted(n: usize, m0: u64, capture: &[u8], info: &mut [u8], parity: &mu
     requires { ⌜ Accepted n (now capture) (now info) (now parity) ⌝ }
     ensures { λ r. ⌜ Outcome (lateAnswer n m0 (now (capture .entry))) (lateLeaves n m0 (now (capture .entry)) (now (info .entry)) (now (parity .entry))) r (now (info .exit), now (parity .exit)) ⌝ }
 {
-    let t = hamming::byte_table();
-    let positions = hamming::position_table();
+    let t = lent::byte_table();
+    let positions = matrix::position_table();
     let scr = scrambler::sequence();
     let mut buffer = blank();
     read_by(
@@ -195,7 +196,7 @@ fn repair_word(positions: &[u8; 512], word: [u8; 16], c: u16) -> Repaired
     requires { ⌜ (now positions ≡ positionTable) × (c ≡ checksOf word) ⌝ }
     ensures { λ r. ⌜ r ≡ repairOf word ⌝ }
 {
-    hamming::repair_known(positions, word, c)
+    lent::repair_known(positions, word, c)
 }
 
 // Whether the checks were not zero: a repaired check bit counts too.
@@ -311,11 +312,8 @@ fn element(t: &[u16; 4096], positions: &[u8; 512], capture: &[u8], e: usize) -> 
 fn follow(a: [u8; 16], b: [u8; 16]) -> [u8; 16]
     ensures { λ r. ⌜ r ≡ followed a b ⌝ }
 {
-    let mut v = a;
     let p = bits::wide(b[0]) * 2 + bits::wide(b[1]) / 128;
-    v[14] = v[14] / 2 * 2 + (p / 256) as u8;
-    v[15] = (p % 256) as u8;
-    v
+    hamming::join(a, p as u16)
 }
 
 // The bits of v from bit i on, and zeros: with a byte behind them none has to be tested.

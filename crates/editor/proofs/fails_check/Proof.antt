@@ -4,7 +4,7 @@ use mathlib.Core.Path.{ap, _∙_}
 use mathlib.Core.Bool.{not}
 use lib.Dec.{eqb}
 use denote.Ref.{now}
-use Rattle.hamming.proofs.Tabled.{by-checks}
+use Rattle.lent.proofs.Tabled.{by-checks}
 use Rattle.line.specs.Words.{wordIn}
 use Rattle.line.proofs.WordLaws.{word-bytes}
 use borrow.Author.Needs.{needs}

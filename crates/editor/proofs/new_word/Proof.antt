@@ -3,7 +3,7 @@ use Prim.Native.Nat.{ℕ}
 use mathlib.Core.Path.{ap, _∙_}
 use denote.Ref.{now}
 use Rattle.bits.specs.Bits.{pack}
-use Rattle.hamming.proofs.Tabled.{by-word}
+use Rattle.lent.proofs.Tabled.{by-word}
 use Rattle.editor.specs.Edit.{elementLocal}
 use Rattle.editor.specs.Parts.{newElement, parityElement}
 use Rattle.editor.proofs.Remaking.{made-whole, made-slowly}

@@ -6,10 +6,10 @@ use borrow.Author.Needs.{needs}
 use lib.ListN.{getD}
 use Rattle.bits.proofs.Numbers.{digit-lt}
 use Rattle.bits.specs.Bits.{digit}
-use Rattle.hamming.specs.Columns.{columnOf}
-use Rattle.hamming.specs.Code.{taken}
-use Rattle.hamming.specs.Lent.{byteSum}
-use Rattle.hamming.proofs.Sums.{Summed, summed-none, summed-more, summed-all}
+use Rattle.matrix.specs.Columns.{columnOf}
+use Rattle.matrix.specs.Sums.{taken}
+use Rattle.hamming.specs.Code.{byteSum}
+use Rattle.matrix.proofs.Sums.{Summed, summed-none, summed-more, summed-all}
 use Rattle.hamming.proofs.byte_sum.Statement.{statement}
 use Rattle.hamming.proofs.byte_sum.Tie as tie
 

@@ -1,12 +1,15 @@
 -- `hamming::encode` meets its contract: the check bits are those that add what the 119 bits add (`word-closed`). Assumes nothing.
+use Prim.Native.Nat.{ℕ, _%_, _<_}
 use mathlib.Core.Path.{ap, _∙_}
+use native.Mathlib.Nat.{mod-eq-of-lt}
 use borrow.Author.Needs.{needs}
 use Rattle.bits.proofs.Packing.{bitOf-lt}
 use Rattle.bits.specs.Bits.{bitAt}
-use Rattle.hamming.specs.Code.{checksOf, tailOf, joinedWord}
-use Rattle.hamming.proofs.Matrix.{tail-lt}
+use Rattle.matrix.specs.Sums.{tailOf}
+use Rattle.hamming.specs.Code.{checksOf, joinedWord}
+use Rattle.matrix.proofs.Matrix.{tail-lt}
 use Rattle.hamming.proofs.Words.{checks-lt}
-use Rattle.hamming.proofs.Tabled.{word-closed}
+use Rattle.hamming.proofs.ByBytes.{word-closed}
 use Rattle.hamming.proofs.encode.Statement.{statement}
 use Rattle.hamming.proofs.encode.Tie as tie
 
@@ -20,15 +23,16 @@ tail-requires : tie.Need-tail-requires
 tail-requires c κs = rw (c .checks .ensures) (checks-lt (c .before .join .result))
 
 join-requires-2 : tie.Need-join-requires-2
-join-requires-2 c κs =
-    let k = c .before in rw (c .tail .ensures) (tail-lt (k .checks .result) (rw (k .checks .ensures) (checks-lt (k .before .join .result))))
+join-requires-2 c κs = search needs
 
 returns : tie.Need-returns
 returns c =
-    let e = c .before .before .before .before .args .e in
+    let k = c .before .before in
+    let e = k .before .before .args .e in
+    let small : k .checks .result < 512 = rw (k .checks .ensures) (checks-lt (k .before .join .result)) in
     c .join2 .ensures
-    ∙ ap (joinedWord (bitAt e))
-    (c .before .tail .ensures ∙ ap tailOf (c .before .before .checks .ensures ∙ ap checksOf (c .before .before .before .join .ensures)))
+    ∙ ap (λ (p : ℕ). joinedWord (bitAt e) (p % 512)) (c .before .tail .ensures)
+    ∙ ap (joinedWord (bitAt e)) (mod-eq-of-lt (tail-lt (k .checks .result) small) ∙ ap tailOf (k .checks .ensures ∙ ap checksOf (k .before .join .ensures)))
     ∙ word-closed (bitAt e) (bitOf-lt 8 e)
 
 pub encode-spec : {M : Type 1} → statement M

@@ -1,11 +1,12 @@
 -- `hamming::join` meets its contract: the two bytes that hold the check bits (`join-set`). Assumes nothing.
+use Prim.Native.Nat.{_%_}
 use native.Mathlib.Omega.{arith}
 use mir.Syntax.{w8}
 use mir.Val.{Fits}
 use borrow.Author.Needs.{needs}
 use lib.ListN.{getD}
 use Rattle.bits.specs.Bits.{Bytes}
-use Rattle.hamming.proofs.Tabled.{join-set}
+use Rattle.hamming.proofs.ByBytes.{join-set}
 use Rattle.hamming.proofs.join.Statement.{statement}
 use Rattle.hamming.proofs.join.Tie as tie
 
@@ -34,7 +35,7 @@ array-write-w-2 : tie.Need-array-write-w-2
 array-write-w-2 c = search needs
 
 returns : tie.Need-returns
-returns c = join-set (c .args .e) (c .args .p) (search needs) (bytes c) (c .pre)
+returns c = join-set (c .args .e) (c .args .p % 512) (search needs) (bytes c) (omega arith)
 
 pub join-spec : {M : Type 1} → statement M
 join-spec =

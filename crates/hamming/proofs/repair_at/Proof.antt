@@ -6,9 +6,7 @@ use native.Mathlib.Omega.{arith}
 use borrow.Author.Needs.{needs}
 use Rattle.bits.proofs.LoopLaws.{tests}
 use Rattle.hamming.specs.declared.Found.the-variants.{Turned}
-use Rattle.hamming.specs.Code.{turn}
-use Rattle.hamming.specs.Repair.{answer}
-use Rattle.hamming.specs.Repair.{repairAt}
+use Rattle.hamming.specs.Repair.{answer, repairAt}
 use Rattle.hamming.proofs.Repairs.{at-turned}
 use Rattle.hamming.proofs.repair_at.Statement.{statement}
 use Rattle.hamming.proofs.repair_at.Tie as tie
@@ -17,17 +15,14 @@ returns : tie.Need-returns
 unfolding repairAt
 returns c = search tests
 
-wide-requires : tie.Need-wide-requires
-wide-requires c κs = search needs
-
 turned-requires : tie.Need-turned-requires
 turned-requires c κs = search needs
 
 returns-2 : tie.Need-returns-2
 returns-2 c =
-    let i = c .before .before in
+    let i = c .before in
     let a = i .before .before .args in
-    ap (λ (v : List ℕ). answer v (Turned (a .i))) (c .turned .ensures ∙ ap (turn (a .w)) (c .before .wide .ensures .same))
+    ap (λ (v : List ℕ). answer v (Turned (a .i))) (c .turned .ensures)
     ∙ sym (at-turned (a .w) (a .c) (a .i) (i .before .if1 .left) (omega arith))
 
 returns-3 : tie.Need-returns-3
@@ -35,4 +30,4 @@ unfolding repairAt
 returns-3 c = search tests
 
 pub repair-at-spec : {M : Type 1} → statement M
-repair-at-spec = tie.close (tie.spec returns wide-requires turned-requires returns-2 returns-3)
+repair-at-spec = tie.close (tie.spec returns turned-requires returns-2 returns-3)

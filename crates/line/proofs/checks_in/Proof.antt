@@ -1,7 +1,7 @@
 -- `line::checks_in` meets its contract. Assumes nothing.
 use mathlib.Core.Path.{ap, _∙_}
 use denote.Ref.{now}
-use Rattle.hamming.specs.Lent.{sumBy}
+use Rattle.lent.specs.Lent.{sumBy}
 use borrow.Author.Needs.{needs}
 use Rattle.line.proofs.checks_in.Statement.{statement}
 use Rattle.line.proofs.checks_in.Tie as tie

@@ -5,8 +5,8 @@ use native.Mathlib.Omega.{arith}
 use denote.Ref.{now}
 use lib.ListN.{getD}
 use borrow.Author.Needs.{needs}
-use Rattle.hamming.specs.Lent.{entryAt, sumBy}
-use Rattle.hamming.proofs.Sums.{Summed, summed-none, summed-more, summed-all}
+use Rattle.lent.specs.Lent.{entryAt, sumBy}
+use Rattle.matrix.proofs.Sums.{Summed, summed-none, summed-more, summed-all}
 use Rattle.line.specs.Words.{symbolPlace, wordIn}
 use Rattle.line.proofs.WordLaws.{word-symbol}
 use Rattle.line.proofs.checks_inside.Statement.{statement}

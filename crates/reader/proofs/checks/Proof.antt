@@ -2,7 +2,7 @@
 use mathlib.Core.Path.{_∙_}
 use denote.Ref.{now}
 use Rattle.line.specs.Words.{wordIn}
-use Rattle.hamming.proofs.Tabled.{by-checks}
+use Rattle.lent.proofs.Tabled.{by-checks}
 use Rattle.line.proofs.WordLaws.{word-bytes}
 use borrow.Author.Needs.{needs}
 use Rattle.reader.proofs.checks.Statement.{statement}

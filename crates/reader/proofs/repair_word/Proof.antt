@@ -1,7 +1,7 @@
 -- `reader::repair_word` meets its contract. Assumes nothing.
 use mathlib.Core.Path.{_∙_}
 use denote.Ref.{now}
-use Rattle.hamming.proofs.Tabled.{by-known}
+use Rattle.lent.proofs.Tabled.{by-known}
 use borrow.Author.Needs.{needs}
 use Rattle.reader.proofs.repair_word.Statement.{statement}
 use Rattle.reader.proofs.repair_word.Tie as tie

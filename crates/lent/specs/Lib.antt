@@ -1,0 +1,3 @@
+-- What the contracts of `lent` are stated in.
+pub mod Lent
+pub mod Doubling

@@ -1,0 +1,108 @@
+-- What is proved of the matrix: 128 columns of nine digits, all non-zero (the row of ones), all different; the last nine are independent, so
+-- that exactly one choice of the nine check bits makes the checks zero. Each is one test over the whole table.
+-- Assumes nothing.
+use Prim.Native.Nat.{ℕ, suc, _-_, _*_, _/_, _%_, _<_}
+use mathlib.Core.Bool.{Bool, true, false, cond}
+use mathlib.Core.List.{List, [], _∷_}
+use mathlib.Core.Path.{_≡_, refl, sym, ap, _∙_}
+use native.Mathlib.Nat.{mul-one, le-of-suc-le-suc, not-suc-le-zero}
+use native.Mathlib.Omega.{arith}
+use borrow.Author.Tests.{eqb-true}
+use lib.Bits.{bitXor, xor-self, xor-lt}
+use lib.Dec.{T, eqb, ltb, eqb→eq, ltb→lt}
+use lib.ListN.{length, getD}
+use Rattle.bits.specs.Bits.{tabulate, digit}
+use Rattle.bits.proofs.Numbers.{digit-lt}
+use Rattle.bits.proofs.Common.{agree, xor-none}
+use Rattle.bits.proofs.Tables.{both, both-left, both-right, each}
+use Rattle.bits.proofs.Xor.{digit-xor}
+use Rattle.matrix.specs.Columns.{columns, columnOf, placeIn, positionOf}
+use Rattle.matrix.specs.Sums.{sumTo, taken, tailSum, tailSums, tailOf}
+use Rattle.matrix.proofs.Sums.{taken-xor}
+
+pub columns-long : length columns ≡ 128
+unfolding columns
+columns-long = refl
+
+-- the lowest digit of column i is 1, so it is not zero
+pub column-odd : (i : ℕ) → i < 128 → columnOf i % 2 ≡ 1
+unfolding columnOf columns
+column-odd = agree (λ i. columnOf i % 2) (λ i. 1) 128 tt
+
+pub column-not-zero : (i : ℕ) → i < 128 → columnOf i ≡ 0 → ⊥
+column-not-zero i h e = omega (arith, column-odd i h)
+
+-- it has nine digits
+pub column-lt : (i : ℕ) → i < 128 → columnOf i < 512
+unfolding columnOf columns
+column-lt i h = let e : columnOf i / 512 ≡ 0 = agree (λ i. columnOf i / 512) (λ i. 0) 128 tt i h in omega arith
+
+-- its place among the columns is i, so no other has its number
+pub position-column : (i : ℕ) → i < 128 → positionOf (columnOf i) ≡ i
+unfolding positionOf placeIn columnOf columns
+position-column = agree (λ i. positionOf (columnOf i)) (λ i. i) 128 tt
+
+pub columns-differ : (i j : ℕ) → i < 128 → j < 128 → columnOf i ≡ columnOf j → i ≡ j
+columns-differ i j h k e = sym (position-column i h) ∙ ap positionOf e ∙ position-column j k
+
+-- what stands at a place that was found is what was looked for
+place-step : (l : List ℕ) (y x : ℕ) (b : Bool) → eqb y x ≡ b → (placeIn l x < length l → getD l (placeIn l x) 0 ≡ x)
+    → cond b 0 (suc (placeIn l x)) < suc (length l) → getD (y ∷ l) (cond b 0 (suc (placeIn l x))) 0 ≡ x
+place-step l y x true e ih h = eqb-true y x e
+place-step l y x false e ih h = ih (le-of-suc-le-suc h)
+
+place-found : (l : List ℕ) (x : ℕ) → placeIn l x < length l → getD l (placeIn l x) 0 ≡ x
+unfolding placeIn
+place-found [] x h = absurd (not-suc-le-zero h)
+place-found (y ∷ l) x h = place-step l y x (eqb y x) refl (place-found l x) h
+
+pub column-position : (c : ℕ) → positionOf c < 128 → columnOf (positionOf c) ≡ c
+unfolding positionOf columnOf
+column-position c h = place-found columns c (rw columns-long h)
+
+-- an even number is no column
+pub no-column-even : (c : ℕ) → c < 512 → c % 2 ≡ 0 → positionOf c ≡ 128
+unfolding positionOf placeIn columns
+no-column-even c h e =
+    let p : c ≡ 2 * (c / 2) = omega arith in
+    ap positionOf p ∙ agree (λ k. positionOf (2 * k)) (λ k. 128) 256 tt (c / 2) (omega arith)
+
+-- ---- the last nine
+
+-- the check bits that the search finds for c are nine, and add c
+found : ℕ → ℕ → Bool
+found c p = both (ltb p 512) (eqb (tailSum p) c)
+
+tails-found : (c : ℕ) → c < 512 → T (found c (tailOf c))
+unfolding found tailOf tailSums tailSum sumTo taken tabulate digit placeIn columnOf columns
+tails-found = each (λ c. found c (tailOf c)) 512 tt
+
+pub tail-lt : (c : ℕ) → c < 512 → tailOf c < 512
+unfolding found
+tail-lt c h = ltb→lt (tailOf c) 512 (both-left (ltb (tailOf c) 512) (eqb (tailSum (tailOf c)) c) (tails-found c h))
+
+pub tail-sum : (c : ℕ) → c < 512 → tailSum (tailOf c) ≡ c
+unfolding found
+tail-sum c h = eqb→eq (tailSum (tailOf c)) c (both-right (ltb (tailOf c) 512) (eqb (tailSum (tailOf c)) c) (tails-found c h))
+
+-- check bits add by sums of columns
+pub tail-xor : (p q : ℕ) → tailSum (bitXor p q) ≡ bitXor (tailSum p) (tailSum q)
+unfolding tailSum
+tail-xor p q = taken-xor 119 (digit 9 p) (digit 9 q) (digit 9 (bitXor p q)) 9 (digit-lt 9 p) (digit-lt 9 q) (λ j h. digit-xor 9 p q j)
+
+-- they are independent: only no column at all adds zero
+pub only-none : (p : ℕ) → p < 512 → tailSum p ≡ 0 → p ≡ 0
+unfolding tailSum sumTo taken digit columnOf columns
+only-none p h e =
+    let t : p * (1 - tailSum p) ≡ 0 = agree (λ p. p * (1 - tailSum p)) (λ p. 0) 512 tt p h in
+    sym (mul-one p) ∙ ap (λ (x : ℕ). p * (1 - x)) (sym e) ∙ t
+
+-- so no two choices add the same
+pub independent : (p q : ℕ) → p < 512 → q < 512 → tailSum p ≡ tailSum q → p ≡ q
+independent p q h k e =
+    let z : bitXor p q ≡ 0 = only-none (bitXor p q) (xor-lt 9 p q h k) (tail-xor p q ∙ rw e (xor-self (tailSum q))) in
+    xor-none p q z
+
+-- the search finds those that were added
+pub tail-back : (p : ℕ) → p < 512 → tailSum p < 512 → tailOf (tailSum p) ≡ p
+tail-back p h l = independent (tailOf (tailSum p)) p (tail-lt (tailSum p) l) h (tail-sum (tailSum p) l)

@@ -1,0 +1,3 @@
+-- What the contracts of `matrix` are stated in.
+pub mod Columns
+pub mod Sums

@@ -1,0 +1,33 @@
+-- Sums of columns of H without carries, and the nine check bits that add a given sum: 001 section 10.5. Assumes nothing: these are definitions.
+use Prim.Native.Nat.{ℕ, zero, suc, _+_, _*_}
+use mathlib.Core.List.{List}
+use lib.Bits.{bitXor}
+use Rattle.bits.specs.Bits.{tabulate, digit}
+use Rattle.matrix.specs.Columns.{columnOf, placeIn, positionOf}
+
+-- f 0 + f 1 + .. + f (n - 1), digit by digit and without carries
+unfoldable pub sumTo : (ℕ → ℕ) → ℕ → ℕ
+sumTo f zero = zero
+sumTo f (suc n) = bitXor (sumTo f n) (f n)
+
+-- the columns from column a on, each taken where the bit f is 1
+unfoldable pub taken : ℕ → (ℕ → ℕ) → ℕ → ℕ
+taken a f i = f i * columnOf (a + i)
+
+-- what nine check bits p add to the checks, bit 119 on top
+unfoldable pub tailSum : ℕ → ℕ
+tailSum p = sumTo (taken 119 (digit 9 p)) 9
+
+unfoldable pub tailSums : List ℕ
+tailSums = tabulate 512 tailSum
+
+-- the first nine check bits that add c to the checks
+unfoldable pub tailOf : ℕ → ℕ
+tailOf c = placeIn tailSums c
+
+-- both as tables: the check bits by the checks, and the position by the checks
+abbrev pub tailTable : List ℕ
+tailTable = tabulate 512 tailOf
+
+abbrev pub positionTable : List ℕ
+positionTable = tabulate 512 positionOf
