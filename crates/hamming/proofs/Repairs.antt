@@ -1,19 +1,21 @@
 -- What repair does: a code word stays; a code word with one turned bit comes back, whichever bit it was; with two it is beyond repair; and
 -- what is beyond repair stays as it is. Assumes nothing.
 use Prim.Native.Nat.{ℕ, _%_, _<_, _≤_}
+use mathlib.Core.Bool.{Bool, true, false, not, cond}
 use mathlib.Core.Path.{_≡_, refl, sym, ap, ap₂, _∙_}
 use mathlib.Core.List.{List}
 use native.Mathlib.Decide.{ℕ-discrete}
 use native.Mathlib.Omega.{arith}
 use borrow.Author.Tests.{lt-ltb, le-ltb, eq-eqb, ne-eqb}
 use lib.Bits.{bitXor, xor-self, xor-zero-l, xor-mod}
+use lib.Dec.{eqb, ltb}
 use lib.ListN.{length}
 use Rattle.bits.proofs.Common.{by-bound, xor-none}
 use Rattle.hamming.specs.declared.Found.the-variants.{Clean, Turned, Beyond}
 use Rattle.hamming.specs.declared.Repaired.{Repaired}
 use Rattle.matrix.specs.Columns.{columnOf, positionOf}
 use Rattle.hamming.specs.Code.{checksOf, turn}
-use Rattle.hamming.specs.Repair.{answer, repairAt, repairOf}
+use Rattle.hamming.specs.Repair.{answer, repairAt, repairOf, foundOf}
 use Rattle.matrix.proofs.Matrix.{column-odd, column-not-zero, columns-differ, position-column, column-position, no-column-even}
 use Rattle.hamming.proofs.Turning.{turn-long, turn-turn, checks-turn}
 use Rattle.hamming.proofs.Words.{checks-lt}
@@ -69,6 +71,16 @@ repaired-checks w long =
 pub none-kept : (w : List ℕ) → checksOf w ≡ 0 → repairOf w ≡ answer w Clean
 unfolding repairOf
 none-kept w e = at-clean w (checksOf w) (positionOf (checksOf w)) e
+
+-- what repair found says whether the checks were zero
+by-tests : (w v : List ℕ) (i : ℕ) (a b : Bool) → foundOf ((cond a (answer w Clean) (cond b (answer v (Turned i)) (answer w Beyond))) .found) ≡ not a
+by-tests w v i true b = refl
+by-tests w v i false true = refl
+by-tests w v i false false = refl
+
+pub found-checks : (w : List ℕ) → foundOf (repairOf w .found) ≡ not (eqb (checksOf w) 0)
+unfolding repairOf repairAt
+found-checks w = by-tests w (turn w (positionOf (checksOf w))) (positionOf (checksOf w)) (eqb (checksOf w) 0) (ltb (positionOf (checksOf w)) 128)
 
 module _ (w : List ℕ) (long : length w ≡ 16) (clean : checksOf w ≡ 0) where
   -- with one bit turned, its checks are that bit's column

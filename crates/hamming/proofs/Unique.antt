@@ -3,6 +3,7 @@
 use mathlib.Core.Path.{_≡_}
 use Rattle.bits.proofs.Common.{only}
 use Rattle.hamming.proofs.number.Reads as number
+use Rattle.hamming.proofs.is_found.Reads as is-found
 use Rattle.hamming.proofs.checks.Reads as checks
 use Rattle.hamming.proofs.join.Reads as join
 use Rattle.hamming.proofs.encode.Reads as encode
@@ -11,6 +12,9 @@ use Rattle.hamming.proofs.repair.Reads as repair
 
 pub number-one : (κs : _) (a : _) (x y : _) (s t : _) → number.Post κs a x s → number.Post κs a y t → x ≡ y
 number-one κs a x y s t p q = only p q
+
+pub is-found-one : (κs : _) (a : _) (x y : _) (s t : _) → is-found.Post κs a x s → is-found.Post κs a y t → x ≡ y
+is-found-one κs a x y s t p q = only p q
 
 pub checks-one : (κs : _) (a : _) (x y : _) (s t : _) → checks.Post κs a x s → checks.Post κs a y t → x ≡ y
 checks-one κs a x y s t p q = only p q

@@ -5,7 +5,7 @@ ghost use Rattle.bits.specs.Bits.{digit, bitAt};
 ghost use Rattle.matrix.specs.Columns.{columns, positionOf};
 ghost use Rattle.matrix.specs.Sums.{tailOf};
 ghost use Rattle.hamming.specs.Code.{checksOf, byteSum, turn, joinedWord, wordOf};
-ghost use Rattle.hamming.specs.Repair.{repairAt, repairOf, numberOf};
+ghost use Rattle.hamming.specs.Repair.{repairAt, repairOf, numberOf, foundOf};
 
 // What repair found: nothing, the bit that it turned, or more than it can repair.
 pub enum Found {
@@ -27,6 +27,17 @@ pub fn number(found: Found) -> u8
         Found::Clean => 0,
         Found::Turned(_) => 0,
         Found::Beyond => 4,
+    }
+}
+
+// Whether the checks were not zero: a repaired check bit counts too.
+pub fn is_found(found: Found) -> bool
+    ensures { λ r. ⌜ r ≡ foundOf found ⌝ }
+{
+    match found {
+        Found::Clean => false,
+        Found::Turned(_) => true,
+        Found::Beyond => true,
     }
 }
 

@@ -6,21 +6,20 @@ use mathlib.Core.List.{List, [], _∷_}
 use native.Mathlib.Nat.{not-suc-le-zero, le-of-suc-le-suc}
 use native.Mathlib.Omega.{arith}
 use borrow.Author.Tests.{lt-ltb, le-ltb, eq-eqb, ne-eqb, eqb-true, not-false}
-use lib.Dec.{ltb, eqb}
+use lib.Dec.{eqb}
 use lib.ListN.{length, getD}
 use Rattle.bits.specs.Loops.{first, count}
 use Rattle.bits.proofs.Common.{by-bound}
 use Rattle.bits.proofs.LoopLaws.{First, first-holds, first-is, first-none, Passed}
 use Rattle.bits.proofs.Counting.{count-more, count-le}
 use Rattle.hamming.specs.declared.Repaired.{Repaired}
-use Rattle.hamming.specs.declared.Found.the-variants.{Clean, Turned, Beyond}
-use Rattle.hamming.specs.Code.{checksOf, turn}
-use Rattle.matrix.specs.Columns.{positionOf}
-use Rattle.hamming.specs.Repair.{answer, repairAt, repairOf, numberOf}
+use Rattle.hamming.specs.Code.{checksOf}
+use Rattle.hamming.specs.Repair.{repairOf, numberOf, foundOf}
+use Rattle.hamming.proofs.Repairs.{none-kept, found-checks}
 use Rattle.line.specs.Slots.{holds}
 use Rattle.line.specs.Words.{wordIn}
 use Rattle.reader.specs.Read.{repaired, allZero, isBeyond, isFilled, isSeen}
-use Rattle.reader.specs.Parts.{soughtOf, found, wordsTo}
+use Rattle.reader.specs.Parts.{soughtOf, wordsTo}
 use Rattle.reader.specs.declared.WordTally.{WordTally}
 
 -- ---- a search
@@ -62,21 +61,7 @@ one-more : (b : Bool) (c : ℕ) → c + cond b 1 0 ≡ cond b (suc c) c
 one-more true c = omega arith
 one-more false c = omega arith
 
--- what repair found says whether the checks were zero
-by-tests : (w v : List ℕ) (i : ℕ) (a b : Bool) → found ((cond a (answer w Clean) (cond b (answer v (Turned i)) (answer w Beyond))) .found) ≡ not a
-by-tests w v i true b = refl
-by-tests w v i false true = refl
-by-tests w v i false false = refl
-
-found-seen : (w : List ℕ) → found (repairOf w .found) ≡ not (eqb (checksOf w) 0)
-unfolding repairOf repairAt
-found-seen w = by-tests w (turn w (positionOf (checksOf w))) (positionOf (checksOf w)) (eqb (checksOf w) 0) (ltb (positionOf (checksOf w)) 128)
-
-seen-is : (cap : List ℕ) (w : ℕ) → found (repairOf (wordIn cap w) .found) ≡ isSeen cap w
-unfolding isSeen
-seen-is cap w = found-seen (wordIn cap w)
-
--- the same three of a repair that the code has made
+-- the three tests of a repair that the code has made
 pub beyond-is : (cap : List ℕ) (w : ℕ) (r : Repaired) (k : ℕ) → r ≡ repairOf (wordIn cap w) → k ≡ numberOf (r .found) → eqb k 4 ≡ isBeyond cap w
 unfolding isBeyond
 beyond-is cap w r k e h = ap (λ (x : ℕ). eqb x 4) h ∙ ap (λ (x : Repaired). eqb (numberOf (x .found)) 4) e
@@ -85,8 +70,9 @@ pub filled-is : (N : ℕ) (cap : List ℕ) (w : ℕ) (r : Repaired) → r ≡ re
 unfolding isFilled repaired
 filled-is N cap w r e = ap (λ (x : Repaired). not (holds N w) && not (allZero (x .word))) e
 
-pub seen-as : (cap : List ℕ) (w : ℕ) (r : Repaired) → r ≡ repairOf (wordIn cap w) → found (r .found) ≡ isSeen cap w
-seen-as cap w r e = ap (λ (x : Repaired). found (x .found)) e ∙ seen-is cap w
+pub seen-as : (cap : List ℕ) (w : ℕ) (r : Repaired) → r ≡ repairOf (wordIn cap w) → foundOf (r .found) ≡ isSeen cap w
+unfolding isSeen
+seen-as cap w r e = ap (λ (x : Repaired). foundOf (x .found)) e ∙ found-checks (wordIn cap w)
 
 -- a word that holds an element and passes its checks is none of the three
 pub record Plain (N : ℕ) (cap : List ℕ) (w : ℕ) : Type 0 where
@@ -95,8 +81,8 @@ pub record Plain (N : ℕ) (cap : List ℕ) (w : ℕ) : Type 0 where
   pub not-seen : isSeen cap w ≡ false
 
 pub plain-word : (N : ℕ) (cap : List ℕ) (w : ℕ) → checksOf (wordIn cap w) ≡ 0 → holds N w ≡ true → Plain N cap w
-unfolding isBeyond isFilled isSeen repairOf repairAt
-plain-word N cap w e h = record { not-beyond = rw e; not-filled = rw h; not-seen = rw e }
+unfolding isBeyond isFilled isSeen
+plain-word N cap w e h = record { not-beyond = rw (none-kept (wordIn cap w) e); not-filled = rw h; not-seen = rw e }
 
 -- word w is taken in
 pub word-more : (N : ℕ) (cap : List ℕ) (w : ℕ) (s : WordTally) (b f c : ℕ) → s ≡ wordsTo N cap w

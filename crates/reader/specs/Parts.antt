@@ -1,7 +1,7 @@
 -- The parts in which the code reads a capture: what its private functions are asked and answer. Nothing public is stated in them; the laws
 -- (`proofs/`) say that together they are `specs/Read`. Assumes nothing: these are definitions.
 use Prim.Native.Nat.{ℕ, _+_, _-_, _*_, _/_, _%_, _<_}
-use mathlib.Core.Bool.{Bool, true, false, not, cond, _&&_}
+use mathlib.Core.Bool.{Bool, not, cond, _&&_}
 use mathlib.Core.Path.{_≡_}
 use mathlib.Core.List.{List}
 use lib.Bits.{bitXor}
@@ -15,8 +15,6 @@ use Rattle.answer.specs.Outcomes.{written}
 use Rattle.answer.specs.declared.Answer.{Answer}
 use Rattle.crc.specs.Crc.{crcOf}
 use Rattle.scrambler.specs.Scrambler.{o}
-use Rattle.hamming.specs.declared.Found.{Found}
-use Rattle.hamming.specs.declared.Found.the-variants.{Clean, Turned, Beyond}
 use Rattle.hamming.specs.Code.{joinedWord}
 use Rattle.matrix.specs.Sums.{positionTable}
 use Rattle.lent.specs.Lent.{byteTable}
@@ -62,12 +60,6 @@ unfoldable pub soughtOf : ℕ → ℕ → Bool → ℕ
 soughtOf x k here = cond (ltb x k) x (cond here k (k + 1))
 
 -- ---- words
-
--- repair did something, or could not: the checks were not zero
-abbrev pub found : Found → Bool
-found Clean = false
-found (Turned i) = true
-found Beyond = true
 
 -- a Bool as a number to add
 pub record OneIf (b : Bool) (r : ℕ) : Type 0 where

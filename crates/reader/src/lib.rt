@@ -1,6 +1,5 @@
 // Reading a capture: every refusal is known before the first byte is written.
 use answer::Answer;
-use hamming::Found;
 use hamming::Repaired;
 ghost use mathlib.Core.Bool.{not, _&&_};
 ghost use mathlib.Core.Path.{_≡_};
@@ -24,7 +23,7 @@ ghost use Rattle.line.specs.Frames.{infoOf, parityOf};
 ghost use Rattle.line.specs.Slots.{slotOf, holds};
 ghost use Rattle.line.specs.Words.{wordIn, fecIn};
 ghost use Rattle.reader.specs.Read.{repaired, allZero, readAnswer, readLeaves};
-ghost use Rattle.reader.specs.Parts.{judged, Accepted, OneIf, Tables, sequence, soughtOf, found, wordsTo, frameOf, followed, plainByte, mbasOff, crcOff, padOff, blockTaken, framesTo, infoIn, parityIn, verdictOf, lateAnswer, lateLeaves};
+ghost use Rattle.reader.specs.Parts.{judged, Accepted, OneIf, Tables, sequence, soughtOf, wordsTo, frameOf, followed, plainByte, mbasOff, crcOff, padOff, blockTaken, framesTo, infoIn, parityIn, verdictOf, lateAnswer, lateLeaves};
 
 // The pad in whole bytes.
 const PAD_BYTES: usize = (line::PAD_BITS + 7) / 8;
@@ -199,17 +198,6 @@ fn repair_word(positions: &[u8; 512], word: [u8; 16], c: u16) -> Repaired
     lent::repair_known(positions, word, c)
 }
 
-// Whether the checks were not zero: a repaired check bit counts too.
-fn is_found(f: Found) -> bool
-    ensures { λ r. ⌜ r ≡ found f ⌝ }
-{
-    match f {
-        Found::Clean => false,
-        Found::Turned(_) => true,
-        Found::Beyond => true,
-    }
-}
-
 fn all_zero(word: [u8; 16]) -> bool
     ensures { λ r. ⌜ r ≡ allZero word ⌝ }
 {
@@ -271,7 +259,7 @@ fn take_word(
     WordTally {
         beyond: sought(s.beyond, w, hamming::number(f) == 4),
         filler: sought(s.filler, w, is_filled(n, w, word)),
-        seen: s.seen + one_if(is_found(f)),
+        seen: s.seen + one_if(hamming::is_found(f)),
     }
 }
 
