@@ -97,8 +97,8 @@ fn tail(c: u16) -> u16
     requires { ⌜ c < 512 ⌝ }
     ensures { λ r. ⌜ r ≡ tailOf c ⌝ }
 {
-    let t = matrix::tail_table();
-    t[c as usize]
+    let tails = matrix::tail_table();
+    tails[c as usize]
 }
 
 // The code word of an element: its bits 0..118, and the nine that make all checks zero. Bits 119..127 of the argument are ignored.
@@ -113,8 +113,8 @@ fn position(c: u16) -> u8
     requires { ⌜ c < 512 ⌝ }
     ensures { λ r. ⌜ r ≡ positionOf c ⌝ }
 {
-    let t = matrix::position_table();
-    t[c as usize]
+    let positions = matrix::position_table();
+    positions[c as usize]
 }
 
 // The word with bit i turned.
