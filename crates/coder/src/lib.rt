@@ -172,7 +172,7 @@ fn word(
     let e = line::element_in(w);
     let plain = plain_element(n, m0, info, parity, crcs, e);
     let mask = copies::word_from(sequence, line::ELEMENT_BITS * (e % line::SUPER_ELEMENTS));
-    lent::encode_by(table, tails, line::sum(plain, mask))
+    lent::encode_by(table, tails, capture_words::sum(plain, mask))
 }
 
 // Element e before it is scrambled. Only its 119 bits count: those behind them are of whatever follows.

@@ -158,7 +158,7 @@ fn fails_check(t: &[u16; 4096], capture: &[u8], w: usize) -> bool
     requires { ⌜ now t ≡ byteTable ⌝ }
     ensures { λ r. ⌜ r ≡ not (eqb (checksOf (wordIn (now (capture .entry)) w)) 0) ⌝ }
 {
-    line::checks_in(t, capture, w) != 0
+    capture_words::checks_in(t, capture, w) != 0
 }
 
 // Whether word w is to be listed and fails a check.
@@ -380,7 +380,7 @@ fn parity_element(parity: &[u8], scr: &[u8; PERIOD_BYTES], e: usize) -> [u8; 16]
 {
     let l = e % line::SUPER_ELEMENTS;
     let at = line::ELEMENT_BITS * (l % line::FEC_ELEMENTS) - line::PARITY_FROM;
-    line::sum(
+    capture_words::sum(
         copies::word_from(parity, at),
         copies::word_from(scr, line::ELEMENT_BITS * l % scrambler::PERIOD),
     )
@@ -439,7 +439,7 @@ fn turn(
     ensures { λ r. ⌜ Turned n b (now (bits .entry)) (now (parity .entry)) crc w c (now (capture .entry)) (now (list .entry)) (now (capture .exit)) (now (list .exit)) r ⌝ }
 {
     if is_listed(n, b, w) {
-        let old = line::word_in(capture, w);
+        let old = capture_words::word_in(capture, w);
         let v = new_word(b, bits, parity, scr, t, tails, crc, w, old);
         put_word(capture, w, v);
         list[c] = w as u64;

@@ -8,9 +8,6 @@ use Rattle.line.proofs.mbas.Reads as mbas
 use Rattle.line.proofs.slot.Reads as slot
 use Rattle.line.proofs.element_in.Reads as element-in
 use Rattle.line.proofs.holds_element.Reads as holds-element
-use Rattle.line.proofs.sum.Reads as sum
-use Rattle.line.proofs.word_in.Reads as word-in
-use Rattle.line.proofs.checks_in.Reads as checks-in
 
 pub one-super-allowed : (κs : _) (a : _) (x y : _) (s t : _) → super-allowed.Post κs a x s → super-allowed.Post κs a y t → x ≡ y
 one-super-allowed κs a x y s t p q = only p q
@@ -29,12 +26,3 @@ one-element-in κs a x y s t p q = only p q
 
 pub one-holds-element : (κs : _) (a : _) (x y : _) (s t : _) → holds-element.Post κs a x s → holds-element.Post κs a y t → x ≡ y
 one-holds-element κs a x y s t p q = only p q
-
-pub one-sum : (κs : _) (a : _) (x y : _) (s t : _) → sum.Post κs a x s → sum.Post κs a y t → x ≡ y
-one-sum κs a x y s t p q = only p q
-
-pub one-word-in : (κs : _) (a : _) (x y : _) (s t : _) → word-in.Post κs a x s → word-in.Post κs a y t → x ≡ y
-one-word-in κs a x y s t p q = only p q
-
-pub one-checks-in : (κs : _) (a : _) (x y : _) (s t : _) → checks-in.Post κs a x s → checks-in.Post κs a y t → x ≡ y
-one-checks-in κs a x y s t p q = only p q

@@ -187,7 +187,7 @@ fn checks(t: &[u16; 4096], capture: &[u8], w: usize) -> u16
     requires { ⌜ now t ≡ byteTable ⌝ }
     ensures { λ r. ⌜ r ≡ checksOf (wordIn (now (capture .entry)) w) ⌝ }
 {
-    line::checks_in(t, capture, w)
+    capture_words::checks_in(t, capture, w)
 }
 
 // A word whose checks are c, repaired by the lent table.
@@ -252,7 +252,7 @@ fn take_word(
             seen: s.seen,
         };
     }
-    let received = line::word_in(capture, w);
+    let received = capture_words::word_in(capture, w);
     let r = repair_word(positions, received, c);
     let f = r.found;
     let word = r.word;
@@ -288,7 +288,7 @@ fn element(t: &[u16; 4096], positions: &[u8; 512], capture: &[u8], e: usize) -> 
 {
     let w = line::slot(e as u32);
     let c = checks(t, capture, w);
-    let word = line::word_in(capture, w);
+    let word = capture_words::word_in(capture, w);
     if c == 0 {
         return word;
     }

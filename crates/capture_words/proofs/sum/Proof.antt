@@ -1,4 +1,4 @@
--- `line::sum` meets its contract. Assumes nothing.
+-- `capture_words::sum` meets its contract. Assumes nothing.
 use Prim.Native.Nat.{_-_}
 use lib.ListN.{getD}
 use mir.Val.{Fits}
@@ -8,8 +8,8 @@ use Rattle.bits.specs.Bits.{bitAt, byteOf, added}
 use Rattle.bits.proofs.Lists.{Filled, filled-more}
 use Rattle.bits.proofs.LoopLaws.{loops}
 use Rattle.bits.proofs.Xor.{element-xor}
-use Rattle.line.proofs.sum.Statement.{statement}
-use Rattle.line.proofs.sum.Tie as tie
+use Rattle.capture_words.proofs.sum.Statement.{statement}
+use Rattle.capture_words.proofs.sum.Tie as tie
 
 abbrev Inv-loop : tie.InvT-loop
 Inv-loop a b r₀ k₀ r k = Filled k (byteOf (added (bitAt a) (bitAt b))) r₀ r

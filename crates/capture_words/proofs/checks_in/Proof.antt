@@ -1,10 +1,10 @@
--- `line::checks_in` meets its contract. Assumes nothing.
+-- `capture_words::checks_in` meets its contract. Assumes nothing.
 use mathlib.Core.Path.{ap, _∙_}
 use denote.Ref.{now}
 use Rattle.lent.specs.Lent.{sumBy}
 use borrow.Author.Needs.{needs}
-use Rattle.line.proofs.checks_in.Statement.{statement}
-use Rattle.line.proofs.checks_in.Tie as tie
+use Rattle.capture_words.proofs.checks_in.Statement.{statement}
+use Rattle.capture_words.proofs.checks_in.Tie as tie
 
 checks-inside-requires : tie.Need-checks-inside-requires
 checks-inside-requires c κs = search needs

@@ -1,4 +1,4 @@
--- `line::word_inside` meets its contract: a symbol a turn. Assumes nothing.
+-- `capture_words::word_inside` meets its contract: a symbol a turn. Assumes nothing.
 use Prim.Native.Nat.{ℕ, _-_}
 use mathlib.Core.Path.{ap}
 use native.Mathlib.Omega.{arith}
@@ -6,9 +6,9 @@ use denote.Ref.{now}
 use lib.ListN.{getD}
 use Rattle.bits.proofs.Lists.{Filled, filled-more}
 use Rattle.bits.proofs.LoopLaws.{loops}
 use Rattle.line.specs.Words.{symbolPlace, wordIn, symbolOf}
-use Rattle.line.proofs.word_inside.Statement.{statement}
-use Rattle.line.proofs.word_inside.Tie as tie
+use Rattle.capture_words.proofs.word_inside.Statement.{statement}
+use Rattle.capture_words.proofs.word_inside.Tie as tie
 
 abbrev Inv-loop : tie.InvT-loop
 Inv-loop capture w at r₀ k₀ r k = Filled k (symbolOf capture w) r₀ r

@@ -1,4 +1,4 @@
--- `line::checks_inside` meets its contract: a symbol a turn. Assumes nothing.
+-- `capture_words::checks_inside` meets its contract: a symbol a turn. Assumes nothing.
 use Prim.Native.Nat.{ℕ, _+_, _-_, _*_}
 use mathlib.Core.Path.{sym, ap, _∙_}
 use native.Mathlib.Omega.{arith}
@@ -7,10 +7,10 @@ use lib.ListN.{getD}
 use borrow.Author.Needs.{needs}
 use Rattle.lent.specs.Lent.{entryAt, sumBy}
 use Rattle.matrix.proofs.Sums.{Summed, summed-none, summed-more, summed-all}
 use Rattle.line.specs.Words.{symbolPlace, wordIn}
 use Rattle.line.proofs.WordLaws.{word-symbol}
-use Rattle.line.proofs.checks_inside.Statement.{statement}
-use Rattle.line.proofs.checks_inside.Tie as tie
+use Rattle.capture_words.proofs.checks_inside.Statement.{statement}
+use Rattle.capture_words.proofs.checks_inside.Tie as tie
 
 abbrev Inv-loop : tie.InvT-loop
 Inv-loop t capture w at sum₀ k₀ sum k = Summed (entryAt t (wordIn capture w)) 16 k sum

@@ -1,14 +1,14 @@
--- `line::symbol` meets its contract. Assumes nothing.
+-- `capture_words::symbol` meets its contract. Assumes nothing.
 use Prim.Native.Nat.{ℕ, _*_, _/_, _%_}
 use mathlib.Core.Path.{sym, ap}
 use native.Mathlib.Nat.{add-assoc}
 use denote.Ref.{now}
 use lib.ListN.{getD, List·getD-eq-default}
 use native.Mathlib.Omega.{arith}
 use Rattle.line.specs.Words.{symbolPlace}
 use borrow.Author.Needs.{needs}
-use Rattle.line.proofs.symbol.Statement.{statement}
-use Rattle.line.proofs.symbol.Tie as tie
+use Rattle.capture_words.proofs.symbol.Statement.{statement}
+use Rattle.capture_words.proofs.symbol.Tie as tie
 
 returns : tie.Need-returns
 unfolding symbolPlace

@@ -1,10 +1,10 @@
--- `line::word_tested` meets its contract. Assumes nothing.
+-- `capture_words::word_tested` meets its contract. Assumes nothing.
 use Prim.Native.Nat.{_-_}
 use Rattle.bits.proofs.Lists.{Filled}
 use Rattle.bits.proofs.LoopLaws.{loops}
 use Rattle.line.specs.Words.{wordIn, symbolOf}
-use Rattle.line.proofs.word_tested.Statement.{statement}
-use Rattle.line.proofs.word_tested.Tie as tie
+use Rattle.capture_words.proofs.word_tested.Statement.{statement}
+use Rattle.capture_words.proofs.word_tested.Tie as tie
 
 abbrev Inv-loop : tie.InvT-loop
 Inv-loop capture w r₀ k₀ r k = Filled k (symbolOf capture w) r₀ r

@@ -1,0 +1,2 @@
+-- What `capture_words` promises, once.
+pub mod Unique
