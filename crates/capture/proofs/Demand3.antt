@@ -29,10 +29,10 @@ use Rattle.line.proofs.FrameLaws.{super-pad}
 use Rattle.line.proofs.SlotLaws.{held, held-bit, filler-bit}
 use Rattle.line.proofs.WordLaws.{laid-ext, word-laid}
 use Rattle.coder.specs.Code.{captureOf}
-use Rattle.editor.specs.Edit.{fecOf, blockFrom, inBlock, replaced, change, crcChange, newCrc, editedBits, editedFec, touched, elementFec, elementLocal, listed, editedWord, editedCapture}
-use Rattle.editor.proofs.Listing.{holding-listed, local-lt}
-use Rattle.editor.proofs.Remaking.{element-of}
-use Rattle.editor.proofs.Changing.{change-bits}
+use Rattle.editing.specs.Edit.{fecOf, blockFrom, inBlock, replaced, change, crcChange, newCrc, editedBits, editedFec, touched, elementFec, elementLocal, listed, editedWord, editedCapture}
+use Rattle.editing.proofs.Listing.{holding-listed, local-lt}
+use Rattle.editing.proofs.Remaking.{element-of}
+use Rattle.editing.proofs.Changing.{change-bits}
 use Rattle.capture.specs.Edits.{newInfo, newParity}
 use Rattle.capture.proofs.ReadLaws.{words-long, fec-read}
 

@@ -24,9 +24,9 @@ use Rattle.line.proofs.CaptureLaws.{super-frames}
 use Rattle.line.proofs.WordLaws.{length-laid, laid-words}
 use Rattle.coder.specs.Code.{captureOf}
 use Rattle.reader.specs.Read.{repaired, isSeen, mbasDiffers, readRows, readAnswer}
-use Rattle.editor.specs.Edit.{blocksOf, blockBytes, listLength, listed, listOf, editedCapture, spareSet, fails, editRows, editAnswer, editLeaves}
-use Rattle.editor.proofs.Listing.{Holding, listed-holding, holding-listed}
-use Rattle.editor.proofs.Promises.{Lists, list-is, byte-kept}
+use Rattle.editing.specs.Edit.{blocksOf, blockBytes, listLength, listed, listOf, editedCapture, spareSet, fails, editRows, editAnswer, editLeaves}
+use Rattle.editing.proofs.Listing.{Holding, listed-holding, holding-listed}
+use Rattle.editing.proofs.Promises.{Lists, list-is, byte-kept}
 use Rattle.capture.specs.Damage.{Input, Choice, chosen, hurt, damaged, howMany}
 use Rattle.capture.specs.Edits.{EditInput, newInfo, newParity}
 use Rattle.capture.proofs.Demand2.{ReadBack, demand-2, clean, no-4, no-5, mbas-read, lengths-right, none-left, right}

@@ -4,7 +4,7 @@ ghost use mathlib.Core.Path.{_≡_};
 ghost use Rattle.answer.specs.Outcomes.{Outcome};
 ghost use Rattle.coder.specs.Code.{codeAnswer, codeLeaves};
 ghost use Rattle.reader.specs.Read.{readAnswer, readLeaves};
-ghost use Rattle.editor.specs.Edit.{editAnswer, editLeaves};
+ghost use Rattle.editing.specs.Edit.{editAnswer, editLeaves};
 ghost use Rattle.capture.specs.Part.{partAnswer, partOf};
 
 // The information of FEC block t of n super frames: that part of `info` itself, or the empty part where the request is refused.

@@ -20,7 +20,7 @@ use Rattle.line.proofs.WordLaws.{length-laid}
 use Rattle.coder.specs.Code.{captureOf, codeRows, codeAnswer, codeLeaves}
 use Rattle.coder.proofs.Exactly.{code-rise}
 use Rattle.reader.specs.Read.{readRows, readAnswer, readLeaves}
-use Rattle.editor.specs.Edit.{listed, listOf, editRows, editAnswer, editLeaves}
+use Rattle.editing.specs.Edit.{listed, listOf, editRows, editAnswer, editLeaves}
 use Rattle.capture.specs.Damage.{Input, damaged}
 use Rattle.capture.specs.Edits.{EditInput, newInfo, newParity}
 use Rattle.capture.proofs.Demand2.{demand-2, none-left, right}

@@ -9,7 +9,7 @@ use Rattle.answer.specs.Rows.{Row, done, Least}
 use Rattle.answer.specs.declared.Answer.{Answer}
 use Rattle.line.specs.Sizes.{infoLength, parityLength, captureLength, words}
 use Rattle.coder.specs.Code.{captureOf}
-use Rattle.editor.specs.Edit.{listed, listOf}
+use Rattle.editing.specs.Edit.{listed, listOf}
 use Rattle.capture.specs.Damage.{Input, howMany}
 use Rattle.capture.specs.Edits.{EditInput, newInfo, newParity}
 

@@ -8,7 +8,7 @@ ghost use lib.ListN.{length};
 ghost use Rattle.answer.specs.Numbers.{allDone};
 ghost use Rattle.coder.specs.Code.{codeRows};
 ghost use Rattle.reader.specs.Read.{readRows};
-ghost use Rattle.editor.specs.Edit.{editRows};
+ghost use Rattle.editing.specs.Edit.{editRows};
 ghost use Rattle.demands.specs.Demands.{Refuses, Demand2, Demand3};
 ghost use Rattle.demands.specs.Hurt.{hurtByte, hurtBytes, Chosen};
 

@@ -13,8 +13,8 @@ ghost use Rattle.lent.specs.Lent.{byteTable};
 ghost use Rattle.line.specs.Sizes.{blockBits, fecBits, fecBlocks, elementBits, superElements, fecElements, infoElements, captureLength, words};
 ghost use Rattle.line.specs.Slots.{elementIn};
 ghost use Rattle.line.specs.Words.{symbolPlace, wordIn, fecIn};
-ghost use Rattle.editor.specs.Edit.{blocksOf, listLength, fecOf, blockFrom, change, crcChange, elementLocal, touches, listed, fails, spareSet, editAnswer, editLeaves};
-ghost use Rattle.editor.specs.Parts.{judged, Accepted, onePeriod, firstElement, stretchFrom, stretchTo, newInfoBit, newBit, newElement, parityElement, remade, putWord, Lent, Passing, Turned};
+ghost use Rattle.editing.specs.Edit.{blocksOf, listLength, fecOf, blockFrom, change, crcChange, elementLocal, touches, listed, fails, spareSet, editAnswer, editLeaves};
+ghost use Rattle.editing.specs.Parts.{judged, Accepted, onePeriod, firstElement, stretchFrom, stretchTo, newInfoBit, newBit, newElement, parityElement, remade, putWord, Lent, Passing, Turned};
 
 // One period of the scrambler's sequence, and a word's bits more, so that a word can be cut out anywhere.
 const PERIOD_BYTES: usize = 8208;
@@ -27,11 +27,6 @@ const BEHIND_FIRST: usize = line::INFO_BITS - line::BLOCK_BITS;
 
 // From the first element of an FEC block on, so many words can hold one of its elements.
 const STRETCH: usize = line::FEC_ELEMENTS + line::LONGEST_WAIT;
-
-// A client block in whole bytes, and the length of a list.
-const BLOCK_BYTES: u64 = (line::BLOCK_BITS as u64 + 7) / 8;
-
-const LIST_LENGTH: u64 = 145;
 
 // Replaces client block `block` of a capture of n super frames by the 257 bits of `bits` and its FEC block's parity by `parity`, changes the
 // CRC by what the changed bits leave, and lists the words that hold any of these. The count is how many were listed.
@@ -75,7 +70,7 @@ fn judge(n: u64, block: u64, bits: u64, parity: u64, capture: u64, list: u64) ->
     if line::SUPER_CLIENT_BLOCKS as u64 * n <= block {
         return answer::refuse(answer::OUTSIDE_SET, 0);
     }
-    if bits != BLOCK_BYTES {
+    if bits != editing::BLOCK_BYTES {
         return answer::refuse(answer::WRONG_LENGTH, answer::buffer_place(1));
     }
     if parity != line::PARITY_BYTES as u64 {
@@ -84,7 +79,7 @@ fn judge(n: u64, block: u64, bits: u64, parity: u64, capture: u64, list: u64) ->
     if capture != line::SUPER_CAPTURE_BYTES as u64 * n + line::FILLER_BYTES as u64 {
         return answer::refuse(answer::WRONG_LENGTH, answer::buffer_place(3));
     }
-    if list != LIST_LENGTH {
+    if list != editing::LIST_LENGTH {
         return answer::refuse(answer::WRONG_LENGTH, answer::buffer_place(4));
     }
     answer::granted(0)

@@ -4,8 +4,8 @@ use mathlib.Core.Path.{sym, ap₂, _∙_}
 use native.Mathlib.Omega.{arith}
 use denote.Ref.{now}
 use Rattle.line.specs.Words.{wordIn, fecIn}
-use Rattle.editor.specs.Edit.{fecOf}
-use Rattle.editor.proofs.Changing.{change-at}
+use Rattle.editing.specs.Edit.{fecOf}
+use Rattle.editing.proofs.Changing.{change-at}
 use borrow.Author.Needs.{needs}
 use Rattle.editor.proofs.changed_bit.Statement.{statement}
 use Rattle.editor.proofs.changed_bit.Tie as tie

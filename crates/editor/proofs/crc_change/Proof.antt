@@ -9,8 +9,8 @@ use Rattle.crc.specs.Crc.{step, remFrom, remOf, shiftN}
 use Rattle.crc.proofs.Linear.{rem-more}
 use Rattle.line.specs.Words.{wordIn, fecIn}
 use Rattle.line.specs.Sizes.{blockBits, clientBlocks}
-use Rattle.editor.specs.Edit.{fecOf, blockFrom, change}
-use Rattle.editor.proofs.Changing.{change-bits, crc-changes}
+use Rattle.editing.specs.Edit.{fecOf, blockFrom, change}
+use Rattle.editing.proofs.Changing.{change-bits, crc-changes}
 use borrow.Author.Needs.{needs}
 use Rattle.editor.proofs.crc_change.Statement.{statement}
 use Rattle.editor.proofs.crc_change.Tie as tie

@@ -3,7 +3,7 @@ use mathlib.Core.Path.{sym, ap, _∙_}
 use denote.Ref.{now}
 use Rattle.answer.specs.Numbers.{spareBit}
 use Rattle.answer.specs.Rows.{refused}
-use Rattle.editor.proofs.Answers.{fitting-by, accepted, judged-outcome, spare-outcome}
+use Rattle.editing.proofs.Answers.{fitting-by, accepted, judged-outcome, spare-outcome}
 use borrow.Author.Needs.{needs}
 use Rattle.editor.proofs.edit.Statement.{statement}
 use Rattle.editor.proofs.edit.Tie as tie

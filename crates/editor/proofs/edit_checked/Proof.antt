@@ -1,6 +1,6 @@
 -- `editor::edit_checked` meets its contract. Assumes nothing.
 use denote.Ref.{now}
-use Rattle.editor.proofs.Answers.{nine-outcome, done-outcome}
+use Rattle.editing.proofs.Answers.{nine-outcome, done-outcome}
 use borrow.Author.Needs.{needs}
 use Rattle.editor.proofs.edit_checked.Statement.{statement}
 use Rattle.editor.proofs.edit_checked.Tie as tie

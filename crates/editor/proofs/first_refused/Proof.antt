@@ -8,9 +8,9 @@ use denote.Ref.{now}
 use Rattle.bits.proofs.Common.{by-bound}
 use Rattle.bits.proofs.LoopLaws.{first-is, first-none}
 use Rattle.line.specs.Sizes.{words}
-use Rattle.editor.specs.Edit.{fails}
-use Rattle.editor.specs.Parts.{stretchFrom, stretchTo}
-use Rattle.editor.proofs.Listing.{fails-outside, stretch-in}
+use Rattle.editing.specs.Edit.{fails}
+use Rattle.editing.specs.Parts.{stretchFrom, stretchTo}
+use Rattle.editing.proofs.Listing.{fails-outside, stretch-in}
 use borrow.Author.Needs.{needs}
 use Rattle.editor.proofs.first_refused.Statement.{statement}
 use Rattle.editor.proofs.first_refused.Tie as tie

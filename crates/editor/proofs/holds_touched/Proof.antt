@@ -1,7 +1,7 @@
 -- `editor::holds_touched` meets its contract. Assumes nothing.
 use mathlib.Core.Path.{sym, _∙_}
 use borrow.Author.Tests.{le-leb, lt-leb}
-use Rattle.editor.proofs.Touching.{element-tail, element-before, block-test}
+use Rattle.editing.proofs.Touching.{element-tail, element-before, block-test}
 use borrow.Author.Needs.{needs}
 use Rattle.editor.proofs.holds_touched.Statement.{statement}
 use Rattle.editor.proofs.holds_touched.Tie as tie

@@ -3,7 +3,7 @@ use Prim.Native.Nat.{_+_, _-_, _*_, _%_}
 use mathlib.Core.Path.{_∙_}
 use native.Mathlib.Omega.{arith}
 use Rattle.line.specs.Sizes.{longestWait}
-use Rattle.editor.proofs.Listing.{listed-elsewhere, listed-touches}
+use Rattle.editing.proofs.Listing.{listed-elsewhere, listed-touches}
 use borrow.Author.Needs.{needs}
 use Rattle.editor.proofs.is_listed.Statement.{statement}
 use Rattle.editor.proofs.is_listed.Tie as tie

@@ -2,7 +2,7 @@
 use mathlib.Core.Path.{sym, _∙_}
 use borrow.Author.Tests.{not-true, not-false}
 use denote.Ref.{now}
-use Rattle.editor.proofs.Listing.{fails-unlisted, fails-listed}
+use Rattle.editing.proofs.Listing.{fails-unlisted, fails-listed}
 use borrow.Author.Needs.{needs}
 use Rattle.editor.proofs.is_refused.Statement.{statement}
 use Rattle.editor.proofs.is_refused.Tie as tie

@@ -3,8 +3,8 @@ use Prim.Native.Nat.{ℕ, _+_, _%_}
 use mathlib.Core.Path.{sym, ap₂, _∙_}
 use denote.Ref.{now}
 use Rattle.bits.specs.Bits.{digit}
-use Rattle.editor.proofs.Changing.{sequence-bit}
-use Rattle.editor.proofs.Remaking.{new-info, new-crc-at, new-mbas-at, new-parity-at}
+use Rattle.editing.proofs.Changing.{sequence-bit}
+use Rattle.editing.proofs.Remaking.{new-info, new-crc-at, new-mbas-at, new-parity-at}
 use borrow.Author.Needs.{needs}
 use Rattle.editor.proofs.new_bit.Statement.{statement}
 use Rattle.editor.proofs.new_bit.Tie as tie

@@ -3,8 +3,8 @@ use Prim.Native.Nat.{_+_, _*_, _%_}
 use mathlib.Core.Path.{ap, _∙_}
 use denote.Ref.{now}
 use Rattle.line.specs.Sizes.{elementBits, fecElements, superElements}
-use Rattle.editor.specs.Edit.{elementLocal}
-use Rattle.editor.specs.Parts.{newBit, newElement}
+use Rattle.editing.specs.Edit.{elementLocal}
+use Rattle.editing.specs.Parts.{newBit, newElement}
 use borrow.Author.Needs.{needs}
 use Rattle.editor.proofs.new_element_bit.Statement.{statement}
 use Rattle.editor.proofs.new_element_bit.Tie as tie

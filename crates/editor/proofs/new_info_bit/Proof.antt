@@ -2,9 +2,9 @@
 use Prim.Native.Nat.{ℕ, _+_, _%_}
 use mathlib.Core.Path.{ap₂, _∙_}
 use denote.Ref.{now}
-use Rattle.editor.specs.Parts.{newInfoBit}
-use Rattle.editor.proofs.Changing.{sequence-bit}
-use Rattle.editor.proofs.Touching.{block-in, block-before, block-past}
+use Rattle.editing.specs.Parts.{newInfoBit}
+use Rattle.editing.proofs.Changing.{sequence-bit}
+use Rattle.editing.proofs.Touching.{block-in, block-before, block-past}
 use borrow.Author.Needs.{needs}
 use Rattle.editor.proofs.new_info_bit.Statement.{statement}
 use Rattle.editor.proofs.new_info_bit.Tie as tie

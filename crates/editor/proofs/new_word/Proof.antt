@@ -4,9 +4,9 @@ use mathlib.Core.Path.{ap, _∙_}
 use denote.Ref.{now}
 use Rattle.bits.specs.Bits.{pack}
 use Rattle.lent.proofs.Tabled.{by-word}
-use Rattle.editor.specs.Edit.{elementLocal}
-use Rattle.editor.specs.Parts.{newElement, parityElement}
-use Rattle.editor.proofs.Remaking.{made-whole, made-slowly}
+use Rattle.editing.specs.Edit.{elementLocal}
+use Rattle.editing.specs.Parts.{newElement, parityElement}
+use Rattle.editing.proofs.Remaking.{made-whole, made-slowly}
 use borrow.Author.Needs.{needs}
 use Rattle.editor.proofs.new_word.Statement.{statement}
 use Rattle.editor.proofs.new_word.Tie as tie

@@ -2,8 +2,8 @@
 use mathlib.Core.Path.{_∙_}
 use native.Mathlib.Omega.{arith}
 use denote.Ref.{now}
-use Rattle.editor.specs.Edit.{elementLocal}
-use Rattle.editor.proofs.Remaking.{parity-sum}
+use Rattle.editing.specs.Edit.{elementLocal}
+use Rattle.editing.proofs.Remaking.{parity-sum}
 use borrow.Author.Needs.{needs}
 use Rattle.editor.proofs.parity_element.Statement.{statement}
 use Rattle.editor.proofs.parity_element.Tie as tie

@@ -7,7 +7,7 @@ use Rattle.bits.specs.Bits.{bitAt}
 use Rattle.line.specs.Words.{wordIn}
 use Rattle.line.proofs.SlotLaws.{slot-lt}
 use Rattle.line.specs.Sizes.{elementBits, fecBits, superElements}
-use Rattle.editor.proofs.Changing.{sequence-bit, received}
+use Rattle.editing.proofs.Changing.{sequence-bit, received}
 use borrow.Author.Needs.{needs}
 use Rattle.editor.proofs.received_bit.Statement.{statement}
 use Rattle.editor.proofs.received_bit.Tie as tie

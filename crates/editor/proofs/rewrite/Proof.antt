@@ -3,9 +3,9 @@ use Prim.Native.Nat.{_-_, _≤_}
 use native.Mathlib.Omega.{arith}
 use denote.Ref.{now}
 use Rattle.line.specs.Sizes.{words}
-use Rattle.editor.specs.Parts.{stretchTo, Passing}
-use Rattle.editor.proofs.Listing.{listed-outside, stretch-in}
-use Rattle.editor.proofs.Passes.{passing-start, passing-skip, passing-long, passing-entries, passing-few, passing-turn}
+use Rattle.editing.specs.Parts.{stretchTo, Passing}
+use Rattle.editing.proofs.Listing.{listed-outside, stretch-in}
+use Rattle.editing.proofs.Passes.{passing-start, passing-skip, passing-long, passing-entries, passing-few, passing-turn}
 use borrow.Author.Needs.{needs}
 use Rattle.editor.proofs.rewrite.Statement.{statement}
 use Rattle.editor.proofs.rewrite.Tie as tie

@@ -2,7 +2,7 @@
 use denote.Ref.{now}
 use mir.Val.{Fits}
 use mir.Syntax.{w8}
-use Rattle.editor.proofs.Answers.{spare-test}
+use Rattle.editing.proofs.Answers.{spare-test}
 use borrow.Author.Needs.{needs}
 use Rattle.editor.proofs.spare_set.Statement.{statement}
 use Rattle.editor.proofs.spare_set.Tie as tie

@@ -3,8 +3,8 @@ use mathlib.Core.Path.{sym, _∙_}
 use native.Mathlib.Omega.{arith}
 use denote.Ref.{now}
 use Rattle.line.proofs.WordLaws.{place-lt}
-use Rattle.editor.proofs.Listing.{listed-holding}
-use Rattle.editor.proofs.Passes.{turned-yes, turned-no}
+use Rattle.editing.proofs.Listing.{listed-holding}
+use Rattle.editing.proofs.Passes.{turned-yes, turned-no}
 use borrow.Author.Needs.{needs}
 use Rattle.editor.proofs.turn.Statement.{statement}
 use Rattle.editor.proofs.turn.Tie as tie

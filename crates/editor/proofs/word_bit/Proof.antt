@@ -5,7 +5,7 @@ use native.Mathlib.Omega.{arith}
 use denote.Ref.{now}
 use Rattle.bits.specs.Bits.{bitAt}
 use Rattle.line.specs.Words.{symbolPlace}
-use Rattle.editor.proofs.Changing.{word-bit}
+use Rattle.editing.proofs.Changing.{word-bit}
 use borrow.Author.Needs.{needs}
 use Rattle.editor.proofs.word_bit.Statement.{statement}
 use Rattle.editor.proofs.word_bit.Tie as tie

@@ -14,10 +14,10 @@ use Rattle.line.specs.Words.{wordIn}
 use Rattle.line.specs.Sizes.{fecBlocks, elementBits, superElements, fecElements, infoElements, words, longestWait}
 use Rattle.line.specs.Slots.{slotOf, delay, elementIn, holds}
 use Rattle.line.proofs.SlotLaws.{held}
-use Rattle.editor.specs.Edit.{blocksOf, fecOf, blockFrom, elementFec, elementLocal, isPad, touches, listed, fails}
-use Rattle.editor.specs.Parts.{firstElement, stretchFrom, stretchTo}
-use Rattle.editor.proofs.Touching.{Touch, touches-at, touches-some, element-before, element-past}
-use Rattle.editor.proofs.Picking.{In, count-few}
+use Rattle.editing.specs.Edit.{blocksOf, fecOf, blockFrom, elementFec, elementLocal, isPad, touches, listed, fails}
+use Rattle.editing.specs.Parts.{firstElement, stretchFrom, stretchTo}
+use Rattle.editing.proofs.Touching.{Touch, touches-at, touches-some, element-before, element-past}
+use Rattle.editing.proofs.Picking.{In, count-few}
 
 -- ---- what it means: the word holds element e of the client block's FEC block, and one of its bits is touched
 

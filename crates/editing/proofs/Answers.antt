@@ -19,9 +19,9 @@ use Rattle.answer.proofs.Table.{inTurn, row-whole, row-buffers, row-found, guar
 use Rattle.answer.proofs.Meets.{meets-done, meets-refused}
 use Rattle.line.specs.Sizes.{parityBytes, captureLength, words}
 use Rattle.line.specs.Captures.{superAllowed, wrong}
-use Rattle.editor.specs.Edit.{blocksOf, blockBytes, listLength, listed, spareSet, fails, editRows, editAnswer, editLeaves}
-use Rattle.editor.specs.Parts.{judged, Accepted, Passing}
-use Rattle.editor.proofs.Passes.{passing-capture, passing-list}
+use Rattle.editing.specs.Edit.{blocksOf, blockBytes, listLength, listed, spareSet, fails, editRows, editAnswer, editLeaves}
+use Rattle.editing.specs.Parts.{judged, Accepted, Passing}
+use Rattle.editing.proofs.Passes.{passing-capture, passing-list}
 
 -- ---- the seven spare bits are the low seven of the last byte
 

@@ -16,12 +16,12 @@ use Rattle.line.specs.Slots.{slotOf, elementIn}
 use Rattle.line.specs.Words.{wordAt, symbolAt, wordIn, wordsOf, fecIn}
 use Rattle.line.proofs.SlotLaws.{element-slot, slot-lt, slot-once, holds-slot}
 use Rattle.line.proofs.WordLaws.{word-laid, word-lt, word-symbol, symbol-lt, place-back}
-use Rattle.editor.specs.Edit.{blocksOf, blockFrom, editedFec, elementLocal, touches, listed, listOf, editedWord, editedCapture, editRows, editAnswer}
-use Rattle.editor.specs.Parts.{firstElement}
-use Rattle.editor.proofs.Touching.{element-tail, element-block, touches-some}
-use Rattle.editor.proofs.Picking.{length-picked, picked-entry, picked-rises, picked-room, picked-has, count-few, count-many}
-use Rattle.editor.proofs.Listing.{own, own-in, own-element, own-fec, own-tail, own-block, slotNo, listedCount, listed-slot, listed-count-ge, listed-count-le, holding-listed}
-use Rattle.editor.proofs.Passes.{edited-long, edited-kept}
+use Rattle.editing.specs.Edit.{blocksOf, blockFrom, editedFec, elementLocal, touches, listed, listOf, editedWord, editedCapture, editRows, editAnswer}
+use Rattle.editing.specs.Parts.{firstElement}
+use Rattle.editing.proofs.Touching.{element-tail, element-block, touches-some}
+use Rattle.editing.proofs.Picking.{length-picked, picked-entry, picked-rises, picked-room, picked-has, count-few, count-many}
+use Rattle.editing.proofs.Listing.{own, own-in, own-element, own-fec, own-tail, own-block, slotNo, listedCount, listed-slot, listed-count-ge, listed-count-le, holding-listed}
+use Rattle.editing.proofs.Passes.{edited-long, edited-kept}
 
 -- ---- the numbers handed back
 

@@ -17,10 +17,10 @@ use Rattle.line.specs.Words.{wordIn, wordsOf, fecIn}
 use Rattle.line.proofs.FecLaws.{fields-info, fields-crc, fields-mbas, fields-parity, fields-bits, fields-all}
 use Rattle.line.proofs.FrameLaws.{element-fec}
 use Rattle.line.proofs.SlotLaws.{held, held-bit}
-use Rattle.editor.specs.Edit.{fecOf, inBlock, blockFrom, replaced, crcChange, newCrc, editedBits, editedFec, elementFec, elementLocal, listed, editedWord}
-use Rattle.editor.specs.Parts.{newInfoBit, newBit, newElement, onePeriod, parityElement, remade}
-use Rattle.editor.proofs.Changing.{sequence-from, received-at}
-use Rattle.editor.proofs.Listing.{listed-holding, local-lt}
+use Rattle.editing.specs.Edit.{fecOf, inBlock, blockFrom, replaced, crcChange, newCrc, editedBits, editedFec, elementFec, elementLocal, listed, editedWord}
+use Rattle.editing.specs.Parts.{newInfoBit, newBit, newElement, onePeriod, parityElement, remade}
+use Rattle.editing.proofs.Changing.{sequence-from, received-at}
+use Rattle.editing.proofs.Listing.{listed-holding, local-lt}
 
 -- ---- bits
 

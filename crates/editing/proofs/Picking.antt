@@ -14,7 +14,7 @@ use lib.Seq.{drop-cons, set-at, getD-at}
 use Rattle.bits.specs.Loops.{count}
 use Rattle.bits.proofs.Counting.{count-ext, count-add}
 use Rattle.bits.proofs.Common.{clash, and-left}
-use Rattle.editor.specs.Edit.{picked}
+use Rattle.editing.specs.Edit.{picked}
 
 -- ---- entries
 

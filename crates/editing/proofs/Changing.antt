@@ -17,9 +17,9 @@ use Rattle.line.specs.Frames.{superFrom, fecFrom}
 use Rattle.line.specs.Slots.{slotOf}
 use Rattle.line.specs.Words.{symbolPlace, wordIn, elementFrom, superIn, fecIn}
 use Rattle.line.proofs.WordLaws.{word-symbol}
-use Rattle.editor.specs.Edit.{blockFrom, inBlock, replaced, change, crcChange, elementFec, elementLocal}
-use Rattle.editor.specs.Parts.{onePeriod}
-use Rattle.editor.proofs.Touching.{block-in, block-before, block-past}
+use Rattle.editing.specs.Edit.{blockFrom, inBlock, replaced, change, crcChange, elementFec, elementLocal}
+use Rattle.editing.specs.Parts.{onePeriod}
+use Rattle.editing.proofs.Touching.{block-in, block-before, block-past}
 
 -- ---- what is read
 

@@ -19,7 +19,7 @@ use Rattle.line.specs.Sizes.{crcBits, parityFrom, parityBytes, fecBlocks, eleme
 use Rattle.line.specs.Fec.{fields}
 use Rattle.line.specs.Slots.{elementIn}
 use Rattle.line.specs.Words.{symbolPlace, laid, wordIn}
-use Rattle.editor.specs.Edit.{blocksOf, blockBytes, listLength, fecOf, inBlock, blockFrom, elementLocal, listed, picked, editedWord, spareSet}
+use Rattle.editing.specs.Edit.{blocksOf, blockBytes, listLength, fecOf, inBlock, blockFrom, elementLocal, listed, picked, editedWord, spareSet}
 
 -- ---- numbers 1 and 2, from the numbers and the four lengths alone
 

@@ -9,7 +9,7 @@ use borrow.Author.Tests.{leb-true, leb-false, lt-ltb, le-ltb, le-leb, lt-leb}
 use lib.Dec.{ltb, leb}
 use Rattle.bits.proofs.Common.{clash}
 use Rattle.line.specs.Sizes.{blockBits, infoBits, mbasFrom, parityFrom, elementBits, infoElements}
-use Rattle.editor.specs.Edit.{blockFrom, inBlock, touched, touches}
+use Rattle.editing.specs.Edit.{blockFrom, inBlock, touched, touches}
 
 -- ---- the client block's own bits
 
