@@ -36,7 +36,7 @@ use Rattle.line.proofs.FrameLaws.{super-pad}
 use Rattle.line.proofs.WordLaws.{length-laid, word-laid}
 use Rattle.coder.specs.Code.{captureOf}
 use Rattle.coder.proofs.Coding.{word-filler}
-use Rattle.reader.specs.Read.{repaired, allZero, isBeyond, isFilled, mbasDiffers, crcDiffers, padDiffers, isSeen, readRows, readAnswer, readLeaves}
+use Rattle.reading.specs.Read.{repaired, allZero, isBeyond, isFilled, mbasDiffers, crcDiffers, padDiffers, isSeen, readRows, readAnswer, readLeaves}
 use Rattle.capture.specs.Damage.{Input, Choice, chosen, hurt, damaged, howMany}
 use Rattle.capture.proofs.ReadLaws.{words-long, held-bits, super-read, fec-read}
 

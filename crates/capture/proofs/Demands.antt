@@ -23,7 +23,7 @@ use Rattle.line.specs.Words.{wordAt, wordIn, wordsOf, fecIn}
 use Rattle.line.proofs.CaptureLaws.{super-frames}
 use Rattle.line.proofs.WordLaws.{length-laid, laid-words}
 use Rattle.coder.specs.Code.{captureOf}
-use Rattle.reader.specs.Read.{repaired, isSeen, mbasDiffers, readRows, readAnswer}
+use Rattle.reading.specs.Read.{repaired, isSeen, mbasDiffers, readRows, readAnswer}
 use Rattle.editing.specs.Edit.{blocksOf, blockBytes, listLength, listed, listOf, editedCapture, spareSet, fails, editRows, editAnswer, editLeaves}
 use Rattle.editing.proofs.Listing.{Holding, listed-holding, holding-listed}
 use Rattle.editing.proofs.Promises.{Lists, list-is, byte-kept}

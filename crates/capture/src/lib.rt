@@ -3,7 +3,7 @@ use answer::Answer;
 ghost use mathlib.Core.Path.{_≡_};
 ghost use Rattle.answer.specs.Outcomes.{Outcome};
 ghost use Rattle.coder.specs.Code.{codeAnswer, codeLeaves};
-ghost use Rattle.reader.specs.Read.{readAnswer, readLeaves};
+ghost use Rattle.reading.specs.Read.{readAnswer, readLeaves};
 ghost use Rattle.editing.specs.Edit.{editAnswer, editLeaves};
 ghost use Rattle.capture.specs.Part.{partAnswer, partOf};
 

@@ -19,7 +19,7 @@ use Rattle.line.specs.Words.{wordsOf}
 use Rattle.line.proofs.WordLaws.{length-laid}
 use Rattle.coder.specs.Code.{captureOf, codeRows, codeAnswer, codeLeaves}
 use Rattle.coder.proofs.Exactly.{code-rise}
-use Rattle.reader.specs.Read.{readRows, readAnswer, readLeaves}
+use Rattle.reading.specs.Read.{readRows, readAnswer, readLeaves}
 use Rattle.editing.specs.Edit.{listed, listOf, editRows, editAnswer, editLeaves}
 use Rattle.capture.specs.Damage.{Input, damaged}
 use Rattle.capture.specs.Edits.{EditInput, newInfo, newParity}

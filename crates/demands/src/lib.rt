@@ -7,7 +7,7 @@ ghost use Prim.Native.Nat.{ℕ};
 ghost use lib.ListN.{length};
 ghost use Rattle.answer.specs.Numbers.{allDone};
 ghost use Rattle.coder.specs.Code.{codeRows};
-ghost use Rattle.reader.specs.Read.{readRows};
+ghost use Rattle.reading.specs.Read.{readRows};
 ghost use Rattle.editing.specs.Edit.{editRows};
 ghost use Rattle.demands.specs.Demands.{Refuses, Demand2, Demand3};
 ghost use Rattle.demands.specs.Hurt.{hurtByte, hurtBytes, Chosen};

@@ -7,7 +7,7 @@ ghost use Rattle.gmp.specs.Places.{kindNumber};
 ghost use Rattle.gmp.specs.Answers.{runOf, runsOf};
 ghost use Rattle.mapping.specs.Groups.{Mapped, Unmapped};
 ghost use Rattle.coder.specs.Code.{codeAnswer, codeLeaves};
-ghost use Rattle.reader.specs.Read.{readAnswer, readLeaves};
+ghost use Rattle.reading.specs.Read.{readAnswer, readLeaves};
 ghost use Rattle.editing.specs.Edit.{editAnswer, editLeaves};
 ghost use Rattle.capture.specs.Part.{partAnswer};
 ghost use Rattle.host.specs.Hosts.{hosted};

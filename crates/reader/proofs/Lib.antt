@@ -1,8 +1,2 @@
--- The laws of `specs/`.
-pub mod Searching
-pub mod Judging
-pub mod Pieces
-pub mod Places
-pub mod Blocks
-pub mod Exactly
+-- What `reader` promises, once.
 pub mod Unique

@@ -1,6 +1,8 @@
 // Reading a capture: every refusal is known before the first byte is written.
 use answer::Answer;
 use hamming::Repaired;
+use reading::BlockTally;
+use reading::WordTally;
 ghost use mathlib.Core.Bool.{not, _&&_};
 ghost use mathlib.Core.Path.{_≡_};
 ghost use Prim.Native.Nat.{_+_, _*_, _^_, _<_, _≤_};
@@ -8,7 +10,6 @@ ghost use lib.Dec.{eqb};
 ghost use lib.ListN.{length};
 ghost use Rattle.bits.specs.Bits.{tabulate, num, bitAt, pack, from};
 ghost use Rattle.bits.specs.Loops.{upto};
-ghost use Rattle.answer.specs.Rows.{done};
 ghost use Rattle.answer.specs.Outcomes.{Outcome};
 ghost use Rattle.crc.specs.Crc.{crcOf};
 ghost use Rattle.crc.specs.ByBytes.{entries};
@@ -17,39 +18,21 @@ ghost use Rattle.matrix.specs.Sums.{positionTable};
 ghost use Rattle.lent.specs.Lent.{byteTable};
 ghost use Rattle.hamming.specs.Repair.{repairOf};
 ghost use Rattle.line.specs.Sizes.{infoBits, fecBits, fecBlocks, superBytes, infoLength, parityLength, words};
-ghost use Rattle.line.specs.Captures.{superAllowed};
-ghost use Rattle.line.specs.Fec.{mbasAllowed};
 ghost use Rattle.line.specs.Frames.{infoOf, parityOf};
 ghost use Rattle.line.specs.Slots.{slotOf, holds};
 ghost use Rattle.line.specs.Words.{wordIn, fecIn};
-ghost use Rattle.reader.specs.Read.{repaired, allZero, readAnswer, readLeaves};
-ghost use Rattle.reader.specs.Parts.{judged, Accepted, OneIf, Tables, sequence, soughtOf, wordsTo, frameOf, followed, plainByte, mbasOff, crcOff, padOff, blockTaken, framesTo, infoIn, parityIn, verdictOf, lateAnswer, lateLeaves};
+ghost use Rattle.reading.specs.Read.{repaired, allZero, readAnswer, readLeaves};
+ghost use Rattle.reading.specs.Parts.{Accepted, OneIf, Tables, sequence, soughtOf, wordsTo, frameOf, followed, plainByte, mbasOff, crcOff, padOff, blockTaken, framesTo, infoIn, parityIn, lateAnswer, lateLeaves};
 
 // The pad in whole bytes.
 const PAD_BYTES: usize = (line::PAD_BITS + 7) / 8;
-
-// What the pass over the words found: the first word beyond repair and the first filler word not zero, each the number of words where there
-// is none, and how many words had checks that were not zero.
-pub struct WordTally {
-    pub beyond: usize,
-    pub filler: usize,
-    pub seen: usize,
-}
-
-// What the pass over the super frames found: the first FEC block whose MBAS, and whose CRC, is wrong, and the first super frame whose pad
-// is not zero; each the number of places where there is none.
-pub struct BlockTally {
-    pub mbas: usize,
-    pub crc: usize,
-    pub pad: usize,
-}
 
 // Takes n super frames, whose FEC blocks count from m0 on, and a capture, and fills information and parity. The count is that of the
 // words whose checks were not zero.
 pub fn read(n: u64, m0: u64, capture: &[u8], info: &mut [u8], parity: &mut [u8]) -> Answer
     ensures { λ r. ⌜ Outcome (readAnswer n m0 (now (capture .entry)) (now (info .entry)) (now (parity .entry))) (readLeaves n m0 (now (capture .entry)) (now (info .entry)) (now (parity .entry))) r (now (info .exit), now (parity .exit)) ⌝ }
 {
-    let r = judge(
+    let r = reading::judge(
         n,
         m0,
         capture.len() as u64,
@@ -61,38 +44,6 @@ pub fn read(n: u64, m0: u64, capture: &[u8], info: &mut [u8], parity: &mut [u8])
     } else {
         r
     }
-}
-
-// Numbers 1 and 2, before anything is read.
-fn judge(n: u64, m0: u64, capture_len: u64, info_len: u64, parity_len: u64) -> Answer
-    ensures { λ r. ⌜ r ≡ judged n m0 «capture_len» «info_len» «parity_len» (done 0) ⌝ }
-{
-    if is_outside(n, m0) {
-        return answer::refuse(answer::OUTSIDE_SET, 0);
-    }
-    if capture_len != line::SUPER_CAPTURE_BYTES as u64 * n + line::FILLER_BYTES as u64 {
-        return answer::refuse(answer::WRONG_LENGTH, answer::buffer_place(1));
-    }
-    if info_len != line::SUPER_INFO_BYTES as u64 * n {
-        return answer::refuse(answer::WRONG_LENGTH, answer::buffer_place(2));
-    }
-    if parity_len != line::SUPER_PARITY_BYTES as u64 * n {
-        return answer::refuse(answer::WRONG_LENGTH, answer::buffer_place(3));
-    }
-    answer::granted(0)
-}
-
-// n is not in 1..8, or m0 may not be counted from.
-fn is_outside(n: u64, m0: u64) -> bool
-    ensures { λ r. ⌜ r ≡ not (superAllowed n && mbasAllowed m0) ⌝ }
-{
-    if n < 1 {
-        return true;
-    }
-    if 8 < n {
-        return true;
-    }
-    !line::mbas_allowed(m0)
 }
 
 // The numbers and lengths are right. Tables are made once and lent; a constant one would be copied at every use.
@@ -139,34 +90,11 @@ fn read_by(
 {
     let w = tally_words(t, positions, n, capture);
     let b = tally_frames(t, positions, scr, n, m0, capture, buffer);
-    let r = verdict(n, w, b);
+    let r = reading::verdict(n as u32, w, b);
     if r.number == 0 {
         write_frames(t, positions, scr, n, capture, buffer, info, parity);
     }
     r
-}
-
-// The smallest number that applies, at its first place.
-fn verdict(n: usize, w: WordTally, b: BlockTally) -> Answer
-    requires { ⌜ n < 9 ⌝ }
-    ensures { λ r. ⌜ r ≡ verdictOf n w b ⌝ }
-{
-    if w.beyond < line::SUPER_ELEMENTS * n + line::LONGEST_WAIT {
-        return answer::refuse(answer::BEYOND_REPAIR, w.beyond as u64);
-    }
-    if w.filler < line::SUPER_ELEMENTS * n + line::LONGEST_WAIT {
-        return answer::refuse(answer::FILLER_NOT_ZERO, w.filler as u64);
-    }
-    if b.mbas < line::FEC_BLOCKS * n {
-        return answer::refuse(answer::WRONG_MBAS, b.mbas as u64);
-    }
-    if b.crc < line::FEC_BLOCKS * n {
-        return answer::refuse(answer::WRONG_CRC, b.crc as u64);
-    }
-    if b.pad < n {
-        return answer::refuse(answer::PAD_NOT_ZERO, b.pad as u64);
-    }
-    answer::granted(w.seen as u64)
 }
 
 // A search that goes on to the end: x is the first place picked among the first k, or k, and place k is taken in.

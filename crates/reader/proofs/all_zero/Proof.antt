@@ -2,7 +2,7 @@
 use borrow.Author.Needs.{needs}
 use Prim.Native.Nat.{_-_}
 use Rattle.bits.proofs.LoopLaws.{Passed, passed-more, loops}
-use Rattle.reader.proofs.Searching.{zero-not, someAt, some-none, some-all}
+use Rattle.reading.proofs.Searching.{zero-not, someAt, some-none, some-all}
 use Rattle.reader.proofs.all_zero.Statement.{statement}
 use Rattle.reader.proofs.all_zero.Tie as tie
 

@@ -5,7 +5,7 @@ use denote.Ref.{now}
 use Rattle.bits.specs.Bits.{bitAt, from}
 use Rattle.bits.proofs.Packing.{bitOf-lt}
 use Rattle.line.specs.Sizes.{fecBits, infoBytes}
-use Rattle.reader.proofs.Pieces.{crc-packed}
+use Rattle.reading.proofs.Pieces.{crc-packed}
 use borrow.Author.Needs.{needs}
 use Rattle.reader.proofs.block_crc.Statement.{statement}
 use Rattle.reader.proofs.block_crc.Tie as tie

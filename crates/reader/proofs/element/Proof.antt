@@ -3,8 +3,8 @@ use mathlib.Core.Path.{sym, ap, _∙_}
 use denote.Ref.{now}
 use Rattle.hamming.specs.Code.{checksOf}
 use Rattle.hamming.specs.Repair.{repairOf}
-use Rattle.reader.specs.Read.{repaired}
-use Rattle.reader.proofs.Pieces.{word-of, word-kept}
+use Rattle.reading.specs.Read.{repaired}
+use Rattle.reading.proofs.Pieces.{word-of, word-kept}
 use borrow.Author.Needs.{needs}
 use Rattle.reader.proofs.element.Statement.{statement}
 use Rattle.reader.proofs.element.Tie as tie

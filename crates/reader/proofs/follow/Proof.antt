@@ -7,7 +7,7 @@ use mir.Val.{Fits}
 use lib.ListN.{getD}
 use Rattle.bits.specs.Bits.{num, bitAt, Bytes}
 use Rattle.hamming.specs.Code.{joinedWord}
-use Rattle.reader.proofs.Pieces.{nine-of}
+use Rattle.reading.proofs.Pieces.{nine-of}
 use borrow.Author.Needs.{needs}
 use Rattle.reader.proofs.follow.Statement.{statement}
 use Rattle.reader.proofs.follow.Tie as tie

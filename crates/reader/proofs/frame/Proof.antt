@@ -5,8 +5,8 @@ use lib.ListN.{take, drop, length}
 use Rattle.bits.proofs.Packing.{length-packs}
 use Rattle.scrambler.specs.Scrambler.{o}
 use Rattle.line.specs.Sizes.{superBytes, superElements}
-use Rattle.reader.specs.Parts.{followed, plainByte, startOf}
-use Rattle.reader.proofs.Places.{element-byte, part-long, filled-part}
+use Rattle.reading.specs.Parts.{followed, plainByte, startOf}
+use Rattle.reading.proofs.Places.{element-byte, part-long, filled-part}
 use native.Mathlib.Omega.{arith}
 use denote.Ref.{now}
 use borrow.Author.Needs.{needs}
@@ -14,7 +14,7 @@ use Rattle.bits.specs.Bits.{byteOf}
 use Rattle.bits.proofs.Lists.{Filled, filled-none, filled-all}
 use Rattle.line.specs.Slots.{slotOf}
 use Rattle.line.specs.Words.{superIn}
-use Rattle.reader.specs.Read.{repaired}
+use Rattle.reading.specs.Read.{repaired}
 use Rattle.reader.proofs.frame.Statement.{statement}
 use Rattle.reader.proofs.frame.Tie as tie
 

@@ -5,7 +5,7 @@ use native.Mathlib.Omega.{arith}
 use lib.ListN.{getD}
 use Rattle.bits.proofs.Lists.{Filled, filled-none, filled-more, filled-to}
 use Rattle.bits.proofs.LoopLaws.{loops}
-use Rattle.reader.proofs.Pieces.{zeros-behind}
+use Rattle.reading.proofs.Pieces.{zeros-behind}
 use Rattle.reader.proofs.from_bit.Statement.{statement}
 use Rattle.reader.proofs.from_bit.Tie as tie
 

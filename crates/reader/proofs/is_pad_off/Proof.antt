@@ -3,7 +3,7 @@ use borrow.Author.Needs.{needs}
 use Prim.Native.Nat.{_-_}
 use denote.Ref.{now}
 use Rattle.bits.proofs.LoopLaws.{Passed, passed-more, loops}
-use Rattle.reader.proofs.Blocks.{padByte, pad-byte, pad-here, pad-zero}
+use Rattle.reading.proofs.Blocks.{padByte, pad-byte, pad-here, pad-zero}
 use Rattle.reader.proofs.is_pad_off.Statement.{statement}
 use Rattle.reader.proofs.is_pad_off.Tie as tie
 

@@ -1,7 +1,7 @@
 -- `reader::long_from` meets its contract. Assumes nothing.
 use denote.Ref.{now}
 use Rattle.bits.specs.Bits.{bitAt}
-use Rattle.reader.proofs.Pieces.{long-of}
+use Rattle.reading.proofs.Pieces.{long-of}
 use borrow.Author.Needs.{needs}
 use Rattle.reader.proofs.long_from.Statement.{statement}
 use Rattle.reader.proofs.long_from.Tie as tie

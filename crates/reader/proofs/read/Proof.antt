@@ -1,6 +1,6 @@
 -- `reader::read` meets its contract. Assumes nothing.
 use denote.Ref.{now}
-use Rattle.reader.proofs.Judging.{accepted, read-late, read-refused}
+use Rattle.reading.proofs.Judging.{accepted, read-late, read-refused}
 use borrow.Author.Needs.{needs}
 use Rattle.reader.proofs.read.Statement.{statement}
 use Rattle.reader.proofs.read.Tie as tie

@@ -1,6 +1,6 @@
 -- `reader::read_by` meets its contract. Assumes nothing.
 use denote.Ref.{now}
-use Rattle.reader.proofs.Judging.{late-done, late-refused}
+use Rattle.reading.proofs.Judging.{late-done, late-refused}
 use borrow.Author.Needs.{needs}
 use Rattle.reader.proofs.read_by.Statement.{statement}
 use Rattle.reader.proofs.read_by.Tie as tie
@@ -10,6 +10,9 @@ tally-words-requires c κs = search needs
 
 tally-frames-requires : tie.Need-tally-frames-requires
 tally-frames-requires c κs = search needs
+
+cast-verdict : tie.Need-cast-verdict
+cast-verdict c = search needs
 
 verdict-requires : tie.Need-verdict-requires
 verdict-requires c κs = search needs
@@ -49,6 +52,7 @@ read-by-spec =
     (tie.spec
     tally-words-requires
     tally-frames-requires
+    cast-verdict
     verdict-requires
     write-frames-requires
     same-length

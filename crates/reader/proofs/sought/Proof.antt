@@ -2,7 +2,7 @@
 use Prim.Native.Nat.{_+_}
 use mathlib.Core.Bool.{Bool, cond}
 use mathlib.Core.Path.{sym, ap, _∙_}
-use Rattle.reader.proofs.Searching.{sought-old, sought-new}
+use Rattle.reading.proofs.Searching.{sought-old, sought-new}
 use borrow.Author.Needs.{needs}
 use Rattle.reader.proofs.sought.Statement.{statement}
 use Rattle.reader.proofs.sought.Tie as tie

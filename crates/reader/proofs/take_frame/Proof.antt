@@ -1,8 +1,8 @@
 -- `reader::take_frame` meets its contract. Assumes nothing.
 use mathlib.Core.Path.{ap, _∙_}
 use denote.Ref.{now}
-use Rattle.reader.specs.Parts.{soughtOf}
-use Rattle.reader.proofs.Blocks.{frame-more}
+use Rattle.reading.specs.Parts.{soughtOf}
+use Rattle.reading.proofs.Blocks.{frame-more}
 use borrow.Author.Needs.{needs}
 use Rattle.reader.proofs.take_frame.Statement.{statement}
 use Rattle.reader.proofs.take_frame.Tie as tie

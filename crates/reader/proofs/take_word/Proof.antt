@@ -12,8 +12,8 @@ use Rattle.hamming.specs.Code.{checksOf}
 use Rattle.hamming.specs.Repair.{repairOf}
 use Rattle.line.specs.Slots.{holds}
 use Rattle.line.specs.Words.{wordIn}
-use Rattle.reader.specs.Parts.{soughtOf}
-use Rattle.reader.proofs.Searching.{seen-le, word-more, beyond-is, filled-is, seen-as, plain-word}
+use Rattle.reading.specs.Parts.{soughtOf}
+use Rattle.reading.proofs.Searching.{seen-le, word-more, beyond-is, filled-is, seen-as, plain-word}
 use borrow.Author.Needs.{needs}
 use Rattle.reader.proofs.take_word.Statement.{statement}
 use Rattle.reader.proofs.take_word.Tie as tie

@@ -6,8 +6,8 @@ use denote.Ref.{now}
 use lib.ListN.{length}
 use borrow.Author.Needs.{needs}
 use Rattle.line.specs.Sizes.{superBytes}
-use Rattle.reader.specs.Parts.{framesTo}
-use Rattle.reader.proofs.Blocks.{frames-none}
+use Rattle.reading.specs.Parts.{framesTo}
+use Rattle.reading.proofs.Blocks.{frames-none}
 use Rattle.reader.proofs.tally_frames.Statement.{statement}
 use Rattle.reader.proofs.tally_frames.Tie as tie
 

@@ -5,8 +5,8 @@ use denote.Ref.{now}
 use native.Mathlib.Omega.{arith}
 use borrow.Author.Needs.{needs}
 use Rattle.line.specs.Sizes.{longestWait, superElements}
-use Rattle.reader.specs.Parts.{wordsTo}
-use Rattle.reader.proofs.Searching.{words-none}
+use Rattle.reading.specs.Parts.{wordsTo}
+use Rattle.reading.proofs.Searching.{words-none}
 use Rattle.reader.proofs.tally_words.Statement.{statement}
 use Rattle.reader.proofs.tally_words.Tie as tie
 

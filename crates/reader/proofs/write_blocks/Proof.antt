@@ -2,13 +2,13 @@
 use lib.ListN.{length, take, drop}
 use Rattle.bits.specs.Bits.{bitAt, from, byteOf}
 use Rattle.line.specs.Sizes.{fecBits, infoBytes, parityBytes, parityFrom, superInfoBytes, superParityBytes}
-use Rattle.reader.proofs.Places.{info-byte, parity-byte, part-long, filled-part}
+use Rattle.reading.proofs.Places.{info-byte, parity-byte, part-long, filled-part}
 use Prim.Native.Nat.{_+_, _-_, _*_, _≤_}
 use native.Mathlib.Omega.{arith}
 use denote.Ref.{now}
 use borrow.Author.Needs.{needs}
 use Rattle.bits.proofs.Lists.{Filled, filled-none, filled-all}
-use Rattle.reader.specs.Parts.{infoIn, parityIn}
+use Rattle.reading.specs.Parts.{infoIn, parityIn}
 use Rattle.reader.proofs.write_blocks.Statement.{statement}
 use Rattle.reader.proofs.write_blocks.Tie as tie
 

@@ -1,5 +1,5 @@
 -- `reader::write_frames` meets its contract: a super frame a turn. Assumes nothing.
-use Rattle.reader.proofs.Places.{info-whole, parity-whole, filled-part, infoAll, parityAll}
+use Rattle.reading.proofs.Places.{info-whole, parity-whole, filled-part, infoAll, parityAll}
 use Prim.Native.Nat.{_+_, _-_, _*_, _≤_}
 use mathlib.Core.Path.{_≡_}
 use native.Mathlib.Omega.{arith}
@@ -11,7 +11,7 @@ use Rattle.bits.proofs.Lists.{Filled, filled-none, filled-all}
 use Rattle.line.specs.Sizes.{superBytes, superInfoBytes, superParityBytes}
 use Rattle.line.specs.Frames.{infoOf, parityOf}
 use Rattle.line.specs.Words.{fecIn}
-use Rattle.reader.specs.Read.{repaired}
+use Rattle.reading.specs.Read.{repaired}
 use Rattle.reader.proofs.write_frames.Statement.{statement}
 use Rattle.reader.proofs.write_frames.Tie as tie
 

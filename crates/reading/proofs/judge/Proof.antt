@@ -1,4 +1,4 @@
--- `reader::judge` meets its contract. Assumes nothing.
+-- `reading::judge` meets its contract. Assumes nothing.
 use Prim.Native.Nat.{_+_, _*_}
 use mathlib.Core.Bool.{true, false, not, _&&_}
 use mathlib.Core.Path.{_≡_, sym, _∙_}
@@ -7,11 +7,11 @@ use borrow.Author.Tests.{eq-eqb, ne-eqb, not-false}
 use Rattle.line.specs.Captures.{superAllowed}
 use Rattle.line.specs.Fec.{mbasAllowed}
 use Rattle.line.specs.Sizes.{fillerBytes, superCaptureBytes, superInfoBytes, superParityBytes}
-use Rattle.reader.specs.Parts.{judged}
-use Rattle.reader.proofs.Judging.{few-of}
+use Rattle.reading.specs.Parts.{judged}
+use Rattle.reading.proofs.Judging.{few-of}
 use borrow.Author.Needs.{needs}
-use Rattle.reader.proofs.judge.Statement.{statement}
-use Rattle.reader.proofs.judge.Tie as tie
+use Rattle.reading.proofs.judge.Statement.{statement}
+use Rattle.reading.proofs.judge.Tie as tie
 
 is-outside-requires : tie.Need-is-outside-requires
 is-outside-requires c κs = search needs

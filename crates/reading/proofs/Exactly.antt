@@ -8,7 +8,7 @@ use Rattle.answer.specs.Numbers.{allDone}
 use Rattle.answer.specs.Rows.{done, refused, Applies, Least, rising}
 use Rattle.answer.proofs.Table.{answered-least, least-answered, answered-done, done-answered, refusal-count}
 use Rattle.line.specs.Sizes.{words}
-use Rattle.reader.specs.Read.{isSeen, readRows, readAnswer}
+use Rattle.reading.specs.Read.{isSeen, readRows, readAnswer}
 
 -- the rows stand in the order of their numbers
 read-rising : (N m0 : ℕ) (cap info par : List ℕ) → rising 0 (readRows N m0 cap info par) ≡ true

@@ -22,8 +22,8 @@ use Rattle.line.specs.Sizes.{infoBits, parityBits, parityFrom, fecBits, infoByt
 use Rattle.line.specs.Frames.{superFrom, fecFrom}
 use Rattle.line.specs.Slots.{slotOf}
 use Rattle.line.specs.Words.{elementFrom, superIn, fecIn}
-use Rattle.reader.specs.Read.{repaired}
-use Rattle.reader.specs.Parts.{sequence, frameOf, startOf, followed, plainByte, infoIn, parityIn}
+use Rattle.reading.specs.Read.{repaired}
+use Rattle.reading.specs.Parts.{sequence, frameOf, startOf, followed, plainByte, infoIn, parityIn}
 
 -- ---- bits
 

@@ -1,10 +1,10 @@
--- `reader::is_outside` meets its contract. Assumes nothing.
+-- `reading::is_outside` meets its contract. Assumes nothing.
 use borrow.Author.Tests.{le-leb}
 use Rattle.bits.proofs.LoopLaws.{tests}
 use Rattle.line.specs.Captures.{superAllowed}
 use borrow.Author.Needs.{needs}
-use Rattle.reader.proofs.is_outside.Statement.{statement}
-use Rattle.reader.proofs.is_outside.Tie as tie
+use Rattle.reading.proofs.is_outside.Statement.{statement}
+use Rattle.reading.proofs.is_outside.Tie as tie
 
 returns : tie.Need-returns
 unfolding superAllowed

@@ -21,7 +21,7 @@ use Rattle.hamming.specs.Repair.{repairOf}
 use Rattle.hamming.proofs.Repairs.{none-kept}
 use Rattle.hamming.specs.Code.{checksOf}
 use Rattle.line.specs.Words.{wordIn}
-use Rattle.reader.specs.Read.{repaired}
+use Rattle.reading.specs.Read.{repaired}
 
 -- the first nine bits of b
 pub nine-of : (b : List ℕ) → Bytes b → getD b 0 0 * 2 + getD b 1 0 / 128 ≡ num 9 (bitAt b) 0

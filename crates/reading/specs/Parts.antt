@@ -23,9 +23,9 @@ use Rattle.line.specs.Captures.{superAllowed}
 use Rattle.line.specs.Fec.{mbasAllowed, mbasOf}
 use Rattle.line.specs.Frames.{infoOf, parityOf}
 use Rattle.line.specs.Words.{superIn, fecIn}
-use Rattle.reader.specs.Read.{repaired, isBeyond, isFilled, mbasDiffers, crcDiffers, padDiffers, isSeen}
-use Rattle.reader.specs.declared.WordTally.{WordTally}
-use Rattle.reader.specs.declared.BlockTally.{BlockTally}
+use Rattle.reading.specs.Read.{repaired, isBeyond, isFilled, mbasDiffers, crcDiffers, padDiffers, isSeen}
+use Rattle.reading.specs.declared.WordTally.{WordTally}
+use Rattle.reading.specs.declared.BlockTally.{BlockTally}
 
 -- ---- numbers 1 and 2, from the numbers and the lengths of the buffers alone; else what comes next
 

@@ -20,10 +20,10 @@ use Rattle.line.specs.Captures.{superAllowed, wrong}
 use Rattle.line.specs.Fec.{mbasAllowed}
 use Rattle.line.specs.Frames.{infoOf, parityOf}
 use Rattle.line.specs.Words.{fecIn}
-use Rattle.reader.specs.Read.{repaired, isBeyond, isFilled, mbasDiffers, crcDiffers, padDiffers, isSeen, readRows, readAnswer, readLeaves}
-use Rattle.reader.specs.Parts.{judged, Accepted, wordsTo, framesTo, verdictOf, lateAnswer, lateLeaves}
-use Rattle.reader.specs.declared.WordTally.{WordTally}
-use Rattle.reader.specs.declared.BlockTally.{BlockTally}
+use Rattle.reading.specs.Read.{repaired, isBeyond, isFilled, mbasDiffers, crcDiffers, padDiffers, isSeen, readRows, readAnswer, readLeaves}
+use Rattle.reading.specs.Parts.{judged, Accepted, wordsTo, framesTo, verdictOf, lateAnswer, lateLeaves}
+use Rattle.reading.specs.declared.WordTally.{WordTally}
+use Rattle.reading.specs.declared.BlockTally.{BlockTally}
 
 -- the rows after 1 and 2
 lateRows : ℕ → ℕ → List ℕ → List Row

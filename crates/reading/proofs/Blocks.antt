@@ -17,11 +17,11 @@ use Rattle.crc.proofs.Changes.{crc-ext}
 use Rattle.line.specs.Sizes.{infoBits, crcBits, mbasBits, mbasFrom, fecBits, fecBlocks, padFrom, padBits, superBytes}
 use Rattle.line.specs.Fec.{mbasOf}
 use Rattle.line.specs.Words.{superIn, fecIn}
-use Rattle.reader.specs.Read.{repaired, mbasDiffers, crcDiffers, padDiffers}
-use Rattle.reader.specs.Parts.{soughtOf, frameOf, mbasOff, crcOff, padOff, blockTaken, framesTo}
-use Rattle.reader.specs.declared.BlockTally.{BlockTally}
-use Rattle.reader.proofs.Searching.{first-more}
-use Rattle.reader.proofs.Places.{frame-bit, frame-fec}
+use Rattle.reading.specs.Read.{repaired, mbasDiffers, crcDiffers, padDiffers}
+use Rattle.reading.specs.Parts.{soughtOf, frameOf, mbasOff, crcOff, padOff, blockTaken, framesTo}
+use Rattle.reading.specs.declared.BlockTally.{BlockTally}
+use Rattle.reading.proofs.Searching.{first-more}
+use Rattle.reading.proofs.Places.{frame-bit, frame-fec}
 
 -- ---- by the bytes of a super frame
 

@@ -1,9 +1,9 @@
--- `reader::verdict` meets its contract. Assumes nothing.
+-- `reading::verdict` meets its contract. Assumes nothing.
 use Rattle.bits.proofs.LoopLaws.{tests}
-use Rattle.reader.specs.Parts.{verdictOf}
+use Rattle.reading.specs.Parts.{verdictOf}
 use borrow.Author.Needs.{needs}
-use Rattle.reader.proofs.verdict.Statement.{statement}
-use Rattle.reader.proofs.verdict.Tie as tie
+use Rattle.reading.proofs.verdict.Statement.{statement}
+use Rattle.reading.proofs.verdict.Tie as tie
 
 mul-if1 : tie.Need-mul-if1
 mul-if1 c = search needs

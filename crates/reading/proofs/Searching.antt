@@ -18,9 +18,9 @@ use Rattle.hamming.specs.Repair.{repairOf, numberOf, foundOf}
 use Rattle.hamming.proofs.Repairs.{none-kept, found-checks}
 use Rattle.line.specs.Slots.{holds}
 use Rattle.line.specs.Words.{wordIn}
-use Rattle.reader.specs.Read.{repaired, allZero, isBeyond, isFilled, isSeen}
-use Rattle.reader.specs.Parts.{soughtOf, wordsTo}
-use Rattle.reader.specs.declared.WordTally.{WordTally}
+use Rattle.reading.specs.Read.{repaired, allZero, isBeyond, isFilled, isSeen}
+use Rattle.reading.specs.Parts.{soughtOf, wordsTo}
+use Rattle.reading.specs.declared.WordTally.{WordTally}
 
 -- ---- a search
 
