@@ -1,2 +1,3 @@
 -- The laws of `arguments`.
 pub mod Digits
+pub mod Unique
