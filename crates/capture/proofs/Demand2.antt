@@ -25,7 +25,7 @@ use Rattle.hamming.specs.declared.Repaired.{Repaired}
 use Rattle.hamming.proofs.Words.{coded-checks}
 use Rattle.hamming.proofs.Turning.{turn-long}
 use Rattle.hamming.proofs.Repairs.{none-kept, one-seen, one-repaired}
-use Rattle.line.specs.Sizes.{infoBits, crcBits, mbasBits, mbasFrom, parityFrom, fecBits, fecBlocks, padFrom, padBits, infoLength, parityLength, captureLength, words}
+use Rattle.sizes.specs.Sizes.{infoBits, crcBits, mbasBits, mbasFrom, parityFrom, fecBits, fecBlocks, padFrom, padBits, infoLength, parityLength, captureLength, words}
 use Rattle.line.specs.Captures.{wrong}
 use Rattle.line.specs.Fec.{mbasOf, infoBit, blockCrc, fecBit}
 use Rattle.line.specs.Frames.{superOf, elementOf, infoOf, parityOf}

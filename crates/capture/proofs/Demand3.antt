@@ -19,7 +19,7 @@ use Rattle.crc.proofs.Changes.{crc-ext, crc-change}
 use lib.Bits.{bitXor}
 use Rattle.scrambler.specs.Scrambler.{o}
 use Rattle.hamming.proofs.Words.{coded-ext}
-use Rattle.line.specs.Sizes.{blockBits, clientBlocks, infoBits, crcBits, mbasBits, parityBits, mbasFrom, parityFrom, parityBytes, fecBits, fecBlocks, elementBits, superElements, fecElements, infoLength, parityLength, words}
+use Rattle.sizes.specs.Sizes.{blockBits, clientBlocks, infoBits, crcBits, mbasBits, parityBits, mbasFrom, parityFrom, parityBytes, fecBits, fecBlocks, elementBits, superElements, fecElements, infoLength, parityLength, words}
 use Rattle.line.specs.Fec.{fields, infoBit, parityBit, blockCrc, fecBit}
 use Rattle.line.specs.Frames.{superOf, elementOf}
 use Rattle.line.specs.Slots.{elementIn, holds, slotBit}

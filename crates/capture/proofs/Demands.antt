@@ -16,7 +16,7 @@ use Rattle.answer.specs.declared.Answer.{Answer}
 use Rattle.answer.proofs.Table.{row-none, row-at, row-buffers, inTurn}
 use Rattle.answer.proofs.Meets.{written-done}
 use Rattle.hamming.specs.Code.{checksOf}
-use Rattle.line.specs.Sizes.{mbasBits, mbasFrom, parityBytes, infoLength, parityLength, captureLength, words}
+use Rattle.sizes.specs.Sizes.{mbasBits, mbasFrom, parityBytes, infoLength, parityLength, captureLength, words, blocksOf, blockBytes, listLength}
 use Rattle.line.specs.Captures.{wrong}
 use Rattle.line.specs.Fec.{mbasAllowed, mbasOf, fecBit}
 use Rattle.line.specs.Words.{wordAt, wordIn, wordsOf, fecIn}
@@ -24,7 +24,7 @@ use Rattle.line.proofs.CaptureLaws.{super-frames}
 use Rattle.line.proofs.WordLaws.{length-laid, laid-words}
 use Rattle.coder.specs.Code.{captureOf}
 use Rattle.reading.specs.Read.{repaired, isSeen, mbasDiffers, readRows, readAnswer}
-use Rattle.editing.specs.Edit.{blocksOf, blockBytes, listLength, listed, listOf, editedCapture, spareSet, fails, editRows, editAnswer, editLeaves}
+use Rattle.editing.specs.Edit.{listed, listOf, editedCapture, spareSet, fails, editRows, editAnswer, editLeaves}
 use Rattle.editing.proofs.Listing.{Holding, listed-holding, holding-listed}
 use Rattle.editing.proofs.Promises.{Lists, list-is, byte-kept}
 use Rattle.capture.specs.Damage.{Input, Choice, chosen, hurt, damaged, howMany}

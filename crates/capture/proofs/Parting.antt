@@ -13,7 +13,7 @@ use Rattle.answer.specs.Rows.{done, refused, answerOf, bufferPlace, buffers, Ap
 use Rattle.answer.specs.declared.Answer.{Answer}
 use Rattle.answer.proofs.Table.{row-whole, row-buffers, inTurn, guard, two-tests, answered-least, least-answered, answered-done, done-answered}
 use Rattle.answer.proofs.Meets.{written-done, written-refused}
-use Rattle.line.specs.Sizes.{infoBytes, fecBlocks, infoLength}
+use Rattle.sizes.specs.Sizes.{infoBytes, fecBlocks, infoLength}
 use Rattle.line.specs.Captures.{superAllowed, wrong}
 use Rattle.line.proofs.CaptureLaws.{super-frames, not-wrong}
 use Rattle.capture.specs.Part.{partRows, partAnswer, partOf}

@@ -6,7 +6,7 @@ use native.Mathlib.Omega.{arith}
 use lib.ListN.{length}
 use Rattle.bits.specs.Bits.{bitAt, Bits}
 use Rattle.hamming.proofs.Words.{coded-bit, coded-long}
-use Rattle.line.specs.Sizes.{fecBits, fecBlocks, superBits, elementBits, superElements, words}
+use Rattle.sizes.specs.Sizes.{fecBits, fecBlocks, superBits, elementBits, superElements, words}
 use Rattle.line.specs.Frames.{superOf, elementOf}
 use Rattle.line.specs.Slots.{slotOf, slotBit}
 use Rattle.line.specs.Words.{wordsOf, elementFrom, superIn, fecIn}

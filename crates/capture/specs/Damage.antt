@@ -8,7 +8,7 @@ use lib.ListN.{length}
 use Rattle.bits.specs.Bits.{Bytes}
 use Rattle.bits.specs.Loops.{count}
 use Rattle.hamming.specs.Code.{turn}
-use Rattle.line.specs.Sizes.{infoLength, parityLength, words}
+use Rattle.sizes.specs.Sizes.{infoLength, parityLength, words}
 use Rattle.line.specs.Captures.{superAllowed}
 use Rattle.line.specs.Fec.{mbasAllowed}
 use Rattle.line.specs.Words.{laid, wordIn}

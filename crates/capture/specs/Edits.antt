@@ -6,9 +6,9 @@ use mathlib.Core.List.{List}
 use lib.Dec.{ltb, leb, eqb}
 use lib.ListN.{length, getD}
 use Rattle.bits.specs.Bits.{tabulate, bitAt, pack}
-use Rattle.line.specs.Sizes.{blockBits, clientBlocks, parityBytes, infoLength, parityLength}
+use Rattle.sizes.specs.Sizes.{blockBits, clientBlocks, parityBytes, infoLength, parityLength, blocksOf, blockBytes, listLength}
 use Rattle.line.specs.Captures.{superAllowed}
-use Rattle.editing.specs.Edit.{blocksOf, blockBytes, listLength, spareSet}
+use Rattle.editing.specs.Edit.{spareSet}
 
 -- client block b of the capture stands at bits 257 b .. 257 b + 256 of the information
 unfoldable pub newInfo : ℕ → ℕ → List ℕ → List ℕ → List ℕ

@@ -9,7 +9,7 @@ use Rattle.answer.specs.Numbers.{outsideSet, wrongLength}
 use Rattle.answer.specs.Rows.{Row, answerOf, whole, buffers}
 use Rattle.answer.specs.Outcomes.{written}
 use Rattle.answer.specs.declared.Answer.{Answer}
-use Rattle.line.specs.Sizes.{infoBytes, fecBlocks, infoLength}
+use Rattle.sizes.specs.Sizes.{infoBytes, fecBlocks, infoLength}
 use Rattle.line.specs.Captures.{superAllowed, wrong}
 
 unfoldable pub partRows : ℕ → ℕ → List ℕ → List Row

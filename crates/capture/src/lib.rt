@@ -13,8 +13,8 @@ pub fn information(n: u64, t: u64, info: &[u8]) -> &[u8]
 {
     let r = information_answer(n, t, info);
     if r.number == 0 {
-        let from = line::INFO_BYTES * (t as usize);
-        return &info[from..from + line::INFO_BYTES];
+        let from = sizes::INFO_BYTES * (t as usize);
+        return &info[from..from + sizes::INFO_BYTES];
     }
     &info[0..0]
 }
@@ -26,10 +26,10 @@ pub fn information_answer(n: u64, t: u64, info: &[u8]) -> Answer
     if !line::super_allowed(n) {
         return answer::refuse(answer::OUTSIDE_SET, 0);
     }
-    if line::FEC_BLOCKS as u64 * n <= t {
+    if sizes::FEC_BLOCKS as u64 * n <= t {
         return answer::refuse(answer::OUTSIDE_SET, 0);
     }
-    if info.len() as u64 != line::SUPER_INFO_BYTES as u64 * n {
+    if info.len() as u64 != sizes::SUPER_INFO_BYTES as u64 * n {
         return answer::refuse(answer::WRONG_LENGTH, answer::buffer_place(1));
     }
     answer::granted(0)

@@ -46,14 +46,14 @@ fn code_into(n: u64, info: &[u8], parity: &[u8], capture: &mut [u8]) {
 fn code_from(n: u64, m: u64, room: &[u8], capture: &mut [u8])
     requires { ⌜ 1412609 ≡ length (now room) ⌝ }
 {
-    let a = sizes::information(m);
-    let b = a + sizes::parity(m);
+    let a = buffer_sizes::information(m);
+    let b = a + buffer_sizes::parity(m);
     code_into(n, &room[0..a], &room[a..b], capture);
 }
 
 // With the information and the parity of m super frames, one made behind the other.
 fn code(n: u64, m: u64, capture: &mut [u8]) {
-    let mut room = sizes::large_space();
+    let mut room = buffer_sizes::large_space();
     made::fill(made::start(100 + n % 10), &mut room);
     code_from(n, m, &room, capture);
 }
@@ -74,10 +74,10 @@ fn read_into(n: u64, capture: &[u8], info: &mut [u8], parity: &mut [u8]) {
 
 // Into zeros.
 fn read(n: u64, m: u64, capture: &[u8]) {
-    let mut info = sizes::large_space();
-    let mut parity = sizes::small_space();
-    let a = sizes::information(m);
-    let b = sizes::parity(m);
+    let mut info = buffer_sizes::large_space();
+    let mut parity = buffer_sizes::small_space();
+    let a = buffer_sizes::information(m);
+    let b = buffer_sizes::parity(m);
     read_into(n, capture, &mut info[0..a], &mut parity[0..b]);
 }
 
@@ -121,8 +121,8 @@ fn case(n: u64, m: u64, capture: &mut [u8]) {
 
 // With the buffers of m super frames.
 fn sized(n: u64, m: u64) {
-    let mut capture = sizes::large_space();
-    let k = sizes::capture(m);
+    let mut capture = buffer_sizes::large_space();
+    let k = buffer_sizes::capture(m);
     case(n, m, &mut capture[0..k]);
 }
 

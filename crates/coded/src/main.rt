@@ -30,7 +30,7 @@ fn code_into(n: u64, m0: u64, info: &[u8], parity: &[u8], capture: &mut [u8]) {
 fn code_from(n: u64, m0: u64, info: usize, parity: usize, capture: usize, room: &[u8])
     requires { ⌜ 1412609 ≡ length (now room) ⌝ }
 {
-    let mut space = sizes::large_space();
+    let mut space = buffer_sizes::large_space();
     let a = info % 1300000;
     let b = a + parity % 100000;
     let k = capture % 1412610;
@@ -39,7 +39,7 @@ fn code_from(n: u64, m0: u64, info: usize, parity: usize, capture: usize, room: 
 
 // Codes with buffers of the lengths given. The information is made from the seed 100 + n, and the parity behind it.
 fn code(n: u64, m0: u64, info: usize, parity: usize, capture: usize) {
-    let mut room = sizes::large_space();
+    let mut room = buffer_sizes::large_space();
     made::fill(made::start(100 + n % 9), &mut room);
     code_from(n, m0, info, parity, capture, &room);
 }
@@ -51,9 +51,9 @@ fn granted(n: u64) {
     code(
         n,
         m0,
-        sizes::information(n),
-        sizes::parity(n),
-        sizes::capture(n),
+        buffer_sizes::information(n),
+        buffer_sizes::parity(n),
+        buffer_sizes::capture(n),
     );
 }
 

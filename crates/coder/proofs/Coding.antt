@@ -15,7 +15,7 @@ use Rattle.lent.proofs.Tabled.{by-word}
 use Rattle.scrambler.specs.Scrambler.{o}
 use Rattle.scrambler.proofs.Rule.{o-lt}
 use Rattle.symbols.specs.Group.{symbolAt, laidByte, laidGroup}
-use Rattle.line.specs.Sizes.{elementBits, superElements, superBytes}
+use Rattle.sizes.specs.Sizes.{elementBits, superElements, superBytes}
 use Rattle.line.specs.Frames.{superOf, elementOf}
 use Rattle.line.specs.Slots.{elementIn, holds, slotBit}
 use Rattle.line.specs.Words as place

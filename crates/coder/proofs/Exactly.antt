@@ -6,7 +6,7 @@ use mathlib.Core.List.{List}
 use Rattle.answer.specs.Numbers.{allDone}
 use Rattle.answer.specs.Rows.{Row, done, refused, Applies, Least, rising}
 use Rattle.answer.proofs.Table.{answered-least, least-answered, answered-done, done-answered, refusal-count}
-use Rattle.line.specs.Sizes.{words}
+use Rattle.sizes.specs.Sizes.{words}
 use Rattle.coder.specs.Code.{codeRows, codeAnswer}
 
 module _ (N m0 : ℕ) (info par cap : List ℕ) where

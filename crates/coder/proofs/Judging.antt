@@ -10,7 +10,7 @@ use Rattle.answer.specs.Numbers.{allDone, outsideSet, wrongLength}
 use Rattle.answer.specs.Rows.{done, refused, answerOf, bufferPlace, buffers}
 use Rattle.answer.specs.declared.Answer.{Answer}
 use Rattle.answer.proofs.Table.{row-whole, row-buffers, inTurn, guard, two-tests}
-use Rattle.line.specs.Sizes.{infoLength, parityLength, captureLength, words}
+use Rattle.sizes.specs.Sizes.{infoLength, parityLength, captureLength, words}
 use Rattle.line.specs.Captures.{superAllowed, wrong}
 use Rattle.line.specs.Fec.{mbasAllowed}
 use Rattle.line.proofs.CaptureLaws.{super-frames}

@@ -7,7 +7,7 @@ use Rattle.answer.specs.Numbers.{outsideSet, wrongLength}
 use Rattle.answer.specs.Rows.{Row, answerOf, whole, buffers}
 use Rattle.answer.specs.Outcomes.{written}
 use Rattle.answer.specs.declared.Answer.{Answer}
-use Rattle.line.specs.Sizes.{infoLength, parityLength, captureLength, words}
+use Rattle.sizes.specs.Sizes.{infoLength, parityLength, captureLength, words}
 use Rattle.line.specs.Captures.{superAllowed, wrong}
 use Rattle.line.specs.Fec.{mbasAllowed, fecBit}
 use Rattle.line.specs.Words.{laid, wordsOf}

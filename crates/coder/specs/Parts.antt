@@ -12,7 +12,7 @@ use Rattle.answer.specs.declared.Answer.{Answer}
 use Rattle.matrix.specs.Sums.{tailTable}
 use Rattle.lent.specs.Lent.{byteTable}
 use Rattle.scrambler.specs.Scrambler.{o}
-use Rattle.line.specs.Sizes.{elementBits, superElements, superBytes, infoLength, parityLength, captureLength, words}
+use Rattle.sizes.specs.Sizes.{elementBits, superElements, superBytes, infoLength, parityLength, captureLength, words}
 use Rattle.line.specs.Captures.{superAllowed}
 use Rattle.line.specs.Fec.{mbasAllowed, blockCrc}
 use Rattle.line.specs.Frames.{superOf}

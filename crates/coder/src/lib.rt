@@ -6,22 +6,22 @@ ghost use lib.ListN.{length};
 ghost use Rattle.bits.specs.Bits.{tabulate, bitAt, byteOf, pack, from};
 ghost use Rattle.answer.specs.Outcomes.{Outcome};
 ghost use Rattle.crc.specs.ByBytes.{entries};
-ghost use Rattle.line.specs.Sizes.{infoBytes, fecBlocks, superElements, infoLength, captureLength, words};
+ghost use Rattle.sizes.specs.Sizes.{infoBytes, fecBlocks, superElements, infoLength, captureLength, words};
 ghost use Rattle.line.specs.Fec.{fecBit, blockCrc};
 ghost use Rattle.line.specs.Words.{wordsOf};
 ghost use Rattle.coder.specs.Code.{captureOf, codeAnswer, codeLeaves};
 ghost use Rattle.coder.specs.Parts.{Agree, plainBit, tailBit, entry, Crcs, Granted, Ready, judged};
 
 // Words are written eight at a time.
-const SUPER_GROUPS: usize = line::SUPER_ELEMENTS / 8;
+const SUPER_GROUPS: usize = sizes::SUPER_ELEMENTS / 8;
 
-const FILLER_GROUPS: usize = line::LONGEST_WAIT / 8;
+const FILLER_GROUPS: usize = sizes::LONGEST_WAIT / 8;
 
 // CRC and MBAS stand between the information and the parity.
-const GUARD_BITS: usize = line::PARITY_FROM - line::INFO_BITS;
+const GUARD_BITS: usize = sizes::PARITY_FROM - sizes::INFO_BITS;
 
 // Eight super frames have so many FEC blocks.
-const MOST_BLOCKS: usize = 8 * line::FEC_BLOCKS;
+const MOST_BLOCKS: usize = 8 * sizes::FEC_BLOCKS;
 
 // Codes n super frames whose FEC blocks count from m0 on. The count is the number of words written.
 pub fn code(n: u64, m0: u64, info: &[u8], parity: &[u8], capture: &mut [u8]) -> Answer
@@ -51,16 +51,16 @@ fn judge(n: u64, m0: u64, info: u64, parity: u64, capture: u64) -> Answer
     if !line::mbas_allowed(m0) {
         return answer::refuse(answer::OUTSIDE_SET, 0);
     }
-    if info != line::SUPER_INFO_BYTES as u64 * n {
+    if info != sizes::SUPER_INFO_BYTES as u64 * n {
         return answer::refuse(answer::WRONG_LENGTH, answer::buffer_place(1));
     }
-    if parity != line::SUPER_PARITY_BYTES as u64 * n {
+    if parity != sizes::SUPER_PARITY_BYTES as u64 * n {
         return answer::refuse(answer::WRONG_LENGTH, answer::buffer_place(2));
     }
-    if capture != line::SUPER_CAPTURE_BYTES as u64 * n + line::FILLER_BYTES as u64 {
+    if capture != sizes::SUPER_CAPTURE_BYTES as u64 * n + sizes::FILLER_BYTES as u64 {
         return answer::refuse(answer::WRONG_LENGTH, answer::buffer_place(3));
     }
-    answer::granted(line::SUPER_ELEMENTS as u64 * n + line::LONGEST_WAIT as u64)
+    answer::granted(sizes::SUPER_ELEMENTS as u64 * n + sizes::LONGEST_WAIT as u64)
 }
 
 // Makes the tables that every word needs, once, and codes.
@@ -92,7 +92,7 @@ fn block_crcs(n: usize, info: &[u8]) -> [u32; MOST_BLOCKS]
 {
     let table = crc::table();
     let mut crcs = [0u32; MOST_BLOCKS];
-    for t in 0..line::FEC_BLOCKS * n {
+    for t in 0..sizes::FEC_BLOCKS * n {
         crcs[t] = block_crc(&table, info, t);
     }
     crcs
@@ -103,8 +103,8 @@ fn block_crc(table: &[u32; 256], info: &[u8], t: usize) -> u32
     requires { ⌜ (now table ≡ entries) × (infoBytes * (t + 1) ≤ length (now info)) × (t < fecBlocks * 8) ⌝ }
     ensures { λ r. ⌜ r ≡ blockCrc (now (info .entry)) t ⌝ }
 {
-    let from = line::INFO_BYTES * t;
-    crc::crc(table, &info[from..from + line::INFO_BYTES])
+    let from = sizes::INFO_BYTES * t;
+    crc::crc(table, &info[from..from + sizes::INFO_BYTES])
 }
 
 // All words, a group of eight at a time.
@@ -171,7 +171,7 @@ fn word(
     }
     let e = line::element_in(w);
     let plain = plain_element(n, m0, info, parity, crcs, e);
-    let mask = copies::word_from(sequence, line::ELEMENT_BITS * (e % line::SUPER_ELEMENTS));
+    let mask = copies::word_from(sequence, sizes::ELEMENT_BITS * (e % sizes::SUPER_ELEMENTS));
     lent::encode_by(table, tails, capture_words::sum(plain, mask))
 }
 
@@ -187,26 +187,26 @@ fn plain_element(
     requires { ⌜ (n < 9) × Crcs n (now info) (now crcs) × (e < superElements * n) ⌝ }
     ensures { λ r. ⌜ Agree (bitAt r) (plainBit (fecBit m0 (now (info .entry)) (now (parity .entry))) e) ⌝ }
 {
-    let l = e % line::SUPER_ELEMENTS;
-    if line::PAD_ELEMENT <= l {
+    let l = e % sizes::SUPER_ELEMENTS;
+    if sizes::PAD_ELEMENT <= l {
         return [0u8; 16];
     }
-    let t = line::FEC_BLOCKS * (e / line::SUPER_ELEMENTS) + l / line::FEC_ELEMENTS;
-    let m = l % line::FEC_ELEMENTS;
-    if m < line::INFO_ELEMENTS {
-        return copies::word_from(info, line::INFO_BITS * t + line::ELEMENT_BITS * m);
+    let t = sizes::FEC_BLOCKS * (e / sizes::SUPER_ELEMENTS) + l / sizes::FEC_ELEMENTS;
+    let m = l % sizes::FEC_ELEMENTS;
+    if m < sizes::INFO_ELEMENTS {
+        return copies::word_from(info, sizes::INFO_BITS * t + sizes::ELEMENT_BITS * m);
     }
-    if m == line::INFO_ELEMENTS {
+    if m == sizes::INFO_ELEMENTS {
         return tail_element(
             crcs[t],
             line::mbas(m0, t as u64),
             parity,
-            line::PARITY_BITS * t,
+            sizes::PARITY_BITS * t,
         );
     }
     copies::word_from(
         parity,
-        line::PARITY_BITS * t + (line::ELEMENT_BITS * (m - line::INFO_ELEMENTS) - GUARD_BITS),
+        sizes::PARITY_BITS * t + (sizes::ELEMENT_BITS * (m - sizes::INFO_ELEMENTS) - GUARD_BITS),
     )
 }
 

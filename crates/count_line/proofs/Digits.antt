@@ -9,7 +9,7 @@ use lib.Dec.{ltb, eqb, eqb·suc-suc}
 use lib.ListN.{getD}
 use Rattle.bits.specs.Loops.{upto, count}
 use Rattle.bits.proofs.Counting.{count-le}
-use Rattle.gmp.specs.Places.{places}
+use Rattle.sizes.specs.Sizes.{places}
 use Rattle.count_line.specs.Lines.{isDigit, digitAt, allDigits, decimal}
 use Rattle.count_line.specs.Reading.{tooMuch, nextValue}
 

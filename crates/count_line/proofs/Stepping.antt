@@ -9,7 +9,7 @@ use Rattle.answer.specs.Numbers.{outsideSet}
 use Rattle.answer.specs.Rows.{done, refused, answerOf}
 use Rattle.answer.specs.declared.Answer.{Answer}
 use Rattle.answer.proofs.Table.{row-whole}
-use Rattle.gmp.specs.Places.{places}
+use Rattle.sizes.specs.Sizes.{places}
 use Rattle.count_line.specs.Reading.{nextValue, stepOf, soFar}
 use Rattle.count_line.specs.declared.Line.{Line}
 

@@ -16,7 +16,7 @@ use Rattle.answer.specs.Numbers.{outsideSet}
 use Rattle.answer.specs.Rows.{done, refused, answerOf}
 use Rattle.answer.specs.declared.Answer.{Answer}
 use Rattle.answer.proofs.Table.{row-whole}
-use Rattle.gmp.specs.Places.{places}
+use Rattle.sizes.specs.Sizes.{places}
 use Rattle.count_line.specs.Lines.{lineFeed, lineLength, allDigits, decimal, noCount, countOf}
 use Rattle.count_line.specs.Reading.{tooMuch, nextValue, startOf, stepOf, stepAt, moreOf, soFar}
 use Rattle.count_line.specs.declared.Line.{Line}

@@ -9,7 +9,7 @@ use Rattle.bits.specs.Loops.{upto, first, count}
 use Rattle.answer.specs.Numbers.{outsideSet}
 use Rattle.answer.specs.Rows.{answerOf, whole}
 use Rattle.answer.specs.declared.Answer.{Answer}
-use Rattle.gmp.specs.Places.{places}
+use Rattle.sizes.specs.Sizes.{places}
 
 -- byte k of the input is a line feed
 abbrev pub lineFeed : List ℕ → ℕ → Bool

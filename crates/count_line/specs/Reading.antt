@@ -8,7 +8,7 @@ use Rattle.bits.specs.Loops.{upto}
 use Rattle.answer.specs.Numbers.{outsideSet}
 use Rattle.answer.specs.Rows.{answerOf, whole}
 use Rattle.answer.specs.declared.Answer.{Answer}
-use Rattle.gmp.specs.Places.{places}
+use Rattle.sizes.specs.Sizes.{places}
 use Rattle.count_line.specs.Lines.{isDigit}
 use Rattle.count_line.specs.declared.Line.{Line}
 

@@ -47,7 +47,7 @@ pub fn so_far(line: Line) -> Answer
     if !line.some {
         return answer::refuse(answer::OUTSIDE_SET, 0);
     }
-    if gmp::PLACES < line.value {
+    if sizes::PLACES < line.value {
         return answer::refuse(answer::OUTSIDE_SET, 0);
     }
     answer::granted(line.value)
@@ -77,18 +77,18 @@ fn step(line: Line, b: u8) -> Line
 fn next_value(v: u64, b: u8) -> u64
     ensures { λ r. ⌜ r ≡ nextValue v b ⌝ }
 {
-    if gmp::PLACES < v {
-        return gmp::PLACES + 1;
+    if sizes::PLACES < v {
+        return sizes::PLACES + 1;
     }
     if b < b'0' {
-        return gmp::PLACES + 1;
+        return sizes::PLACES + 1;
     }
     if b'9' < b {
-        return gmp::PLACES + 1;
+        return sizes::PLACES + 1;
     }
     let next = v * 10 + (b - b'0') as u64;
-    if gmp::PLACES < next {
-        gmp::PLACES + 1
+    if sizes::PLACES < next {
+        sizes::PLACES + 1
     } else {
         next
     }

@@ -12,7 +12,7 @@ use Rattle.answer.specs.Outcomes.{Outcome, written}
 use Rattle.answer.specs.declared.Answer.{Answer}
 use Rattle.answer.proofs.Table.{answered-least, refusal-count, row-none, row-buffers, inTurn}
 use Rattle.answer.proofs.Meets.{written-done, written-refused}
-use Rattle.line.specs.Sizes.{infoLength, parityLength, captureLength, words}
+use Rattle.sizes.specs.Sizes.{infoLength, parityLength, captureLength, words}
 use Rattle.line.specs.Captures.{wrong}
 use Rattle.line.specs.Fec.{fecBit}
 use Rattle.line.specs.Words.{wordsOf}

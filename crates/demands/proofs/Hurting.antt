@@ -13,7 +13,7 @@ use lib.ListN.{length, getD, set}
 use lib.Seq.{getD-set-same, getD-set-other}
 use Rattle.bits.proofs.Lists.{tabulate-ext}
 use Rattle.hamming.specs.Code.{turn}
-use Rattle.line.specs.Sizes.{captureLength}
+use Rattle.sizes.specs.Sizes.{captureLength}
 use Rattle.line.specs.Words.{wordAt, symbolAt, laid, wordIn}
 use Rattle.line.proofs.WordLaws.{length-word, word-symbol, symbol-lt, place-back}
 use Rattle.capture.specs.Damage.{hurt, damaged}

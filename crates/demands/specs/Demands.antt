@@ -7,7 +7,7 @@ use Rattle.bits.specs.Loops.{count}
 use Rattle.answer.specs.Numbers.{allDone}
 use Rattle.answer.specs.Rows.{Row, done, Least}
 use Rattle.answer.specs.declared.Answer.{Answer}
-use Rattle.line.specs.Sizes.{infoLength, parityLength, captureLength, words}
+use Rattle.sizes.specs.Sizes.{infoLength, parityLength, captureLength, words}
 use Rattle.coder.specs.Code.{captureOf}
 use Rattle.editing.specs.Edit.{listed, listOf}
 use Rattle.capture.specs.Damage.{Input, howMany}

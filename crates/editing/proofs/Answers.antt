@@ -17,9 +17,9 @@ use Rattle.answer.specs.Outcomes.{Outcome}
 use Rattle.answer.specs.declared.Answer.{Answer}
 use Rattle.answer.proofs.Table.{inTurn, row-whole, row-buffers, row-found, guard}
 use Rattle.answer.proofs.Meets.{meets-done, meets-refused}
-use Rattle.line.specs.Sizes.{parityBytes, captureLength, words}
+use Rattle.sizes.specs.Sizes.{parityBytes, captureLength, words, blocksOf, blockBytes, listLength}
 use Rattle.line.specs.Captures.{superAllowed, wrong}
-use Rattle.editing.specs.Edit.{blocksOf, blockBytes, listLength, listed, spareSet, fails, editRows, editAnswer, editLeaves}
+use Rattle.editing.specs.Edit.{listed, spareSet, fails, editRows, editAnswer, editLeaves}
 use Rattle.editing.specs.Parts.{judged, Accepted, Passing}
 use Rattle.editing.proofs.Passes.{passing-capture, passing-list}
 

@@ -12,7 +12,7 @@ use Rattle.crc.proofs.Linear.{alone}
 use Rattle.scrambler.specs.Scrambler.{o, period}
 use Rattle.scrambler.proofs.Rule.{o-lt}
 use Rattle.scrambler.proofs.Period.{within-period}
-use Rattle.line.specs.Sizes.{blockBits, infoBits, fecBits, fecBlocks, elementBits, superElements, fecElements}
+use Rattle.sizes.specs.Sizes.{blockBits, infoBits, fecBits, fecBlocks, elementBits, superElements, fecElements}
 use Rattle.line.specs.Frames.{superFrom, fecFrom}
 use Rattle.line.specs.Slots.{slotOf}
 use Rattle.line.specs.Words.{symbolPlace, wordIn, elementFrom, superIn, fecIn}

@@ -11,10 +11,10 @@ use Rattle.bits.specs.Loops.{count}
 use Rattle.bits.proofs.Common.{clash, and-left, and-right}
 use Rattle.hamming.specs.Code.{checksOf}
 use Rattle.line.specs.Words.{wordIn}
-use Rattle.line.specs.Sizes.{fecBlocks, elementBits, superElements, fecElements, infoElements, words, longestWait}
+use Rattle.sizes.specs.Sizes.{fecBlocks, elementBits, superElements, fecElements, infoElements, words, longestWait, blocksOf}
 use Rattle.line.specs.Slots.{slotOf, delay, elementIn, holds}
 use Rattle.line.proofs.SlotLaws.{held}
-use Rattle.editing.specs.Edit.{blocksOf, fecOf, blockFrom, elementFec, elementLocal, isPad, touches, listed, fails}
+use Rattle.editing.specs.Edit.{fecOf, blockFrom, elementFec, elementLocal, isPad, touches, listed, fails}
 use Rattle.editing.specs.Parts.{firstElement, stretchFrom, stretchTo}
 use Rattle.editing.proofs.Touching.{Touch, touches-at, touches-some, element-before, element-past}
 use Rattle.editing.proofs.Picking.{In, count-few}

@@ -15,12 +15,12 @@ use lib.Seq.{getD-set-same, getD-set-other}
 use Rattle.bits.specs.Loops.{upto, count}
 use Rattle.bits.proofs.Lists.{tabulate-ext, is-table}
 use Rattle.hamming.proofs.Words.{coded-long}
-use Rattle.line.specs.Sizes.{captureLength, words}
+use Rattle.sizes.specs.Sizes.{captureLength, words, listLength}
 use Rattle.line.specs.Frames.{superOf, elementOf}
 use Rattle.line.specs.Slots.{slotBit}
 use Rattle.line.specs.Words.{symbolPlace, wordAt, symbolAt, laid, symbolOf, wordIn, wordsOf, fecIn}
 use Rattle.line.proofs.WordLaws.{word-at, symbol-at, place-lt, length-laid, length-word, word-laid, laid-ext, laid-words}
-use Rattle.editing.specs.Edit.{listLength, fecOf, crcChange, editedFec, listed, picked, listOf, editedWord, editedCapture}
+use Rattle.editing.specs.Edit.{fecOf, crcChange, editedFec, listed, picked, listOf, editedWord, editedCapture}
 use Rattle.editing.specs.Parts.{remade, putSymbol, putWord, mixed, listing, Passing, Turned}
 use Rattle.editing.proofs.Picking.{length-picked, picked-no, picked-set, count-yes, count-no}
 use Rattle.editing.proofs.Listing.{listed-few}

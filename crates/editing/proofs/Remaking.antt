@@ -10,7 +10,7 @@ use Rattle.bits.proofs.Packing.{bitOf-lt, bitOf-packs, packs-ext}
 use Rattle.scrambler.specs.Scrambler.{o, period}
 use Rattle.hamming.specs.Code.{wordOf}
 use Rattle.hamming.proofs.Words.{coded-ext}
-use Rattle.line.specs.Sizes.{infoBits, crcBits, mbasBits, mbasFrom, parityFrom, fecBits, fecBlocks, elementBits, superElements, fecElements, infoElements}
+use Rattle.sizes.specs.Sizes.{infoBits, crcBits, mbasBits, mbasFrom, parityFrom, fecBits, fecBlocks, elementBits, superElements, fecElements, infoElements}
 use Rattle.line.specs.Frames.{superOf, elementOf}
 use Rattle.line.specs.Slots.{elementIn, slotBit}
 use Rattle.line.specs.Words.{wordIn, wordsOf, fecIn}

@@ -8,7 +8,7 @@ use native.Mathlib.Omega.{arith}
 use borrow.Author.Tests.{leb-true, leb-false, lt-ltb, le-ltb, le-leb, lt-leb}
 use lib.Dec.{ltb, leb}
 use Rattle.bits.proofs.Common.{clash}
-use Rattle.line.specs.Sizes.{blockBits, infoBits, mbasFrom, parityFrom, elementBits, infoElements}
+use Rattle.sizes.specs.Sizes.{blockBits, infoBits, mbasFrom, parityFrom, elementBits, infoElements}
 use Rattle.editing.specs.Edit.{blockFrom, inBlock, touched, touches}
 
 -- ---- the client block's own bits

@@ -13,21 +13,11 @@ use Rattle.answer.specs.Outcomes.{written}
 use Rattle.answer.specs.declared.Answer.{Answer}
 use Rattle.crc.specs.Crc.{remOf}
 use Rattle.hamming.specs.Code.{checksOf}
-use Rattle.line.specs.Sizes.{blockBits, clientBlocks, infoBits, crcBits, mbasFrom, parityFrom, parityBytes, fecBlocks, elementBits, superElements, fecElements, captureLength, words, superBlocks}
+use Rattle.sizes.specs.Sizes.{blockBits, clientBlocks, infoBits, crcBits, mbasFrom, parityFrom, parityBytes, fecBlocks, elementBits, superElements, fecElements, captureLength, words, superBlocks}
 use Rattle.line.specs.Captures.{superAllowed, wrong}
 use Rattle.line.specs.Fec.{fields}
 use Rattle.line.specs.Slots.{elementIn, holds}
 use Rattle.line.specs.Words.{laid, wordIn, wordsOf, fecIn}
-
--- client blocks of N super frames, the bytes of one, and the length of the list
-abbrev pub blocksOf : ℕ → ℕ
-blocksOf N = superBlocks * N
-
-abbrev pub blockBytes : ℕ
-blockBytes = 33
-
-abbrev pub listLength : ℕ
-listLength = 145
 
 -- ---- the bits of an FEC block, edited. Client block b lies in FEC block b / 952, from bit 257 (b mod 952) on
 

@@ -15,11 +15,11 @@ use Rattle.scrambler.specs.Scrambler.{o}
 use Rattle.hamming.specs.Code.{coded}
 use Rattle.matrix.specs.Sums.{tailTable}
 use Rattle.lent.specs.Lent.{byteTable}
-use Rattle.line.specs.Sizes.{crcBits, parityFrom, parityBytes, fecBlocks, elementBits, superElements, fecElements, captureLength, longestWait}
+use Rattle.sizes.specs.Sizes.{crcBits, parityFrom, parityBytes, fecBlocks, elementBits, superElements, fecElements, captureLength, longestWait, blocksOf, blockBytes, listLength}
 use Rattle.line.specs.Fec.{fields}
 use Rattle.line.specs.Slots.{elementIn}
 use Rattle.line.specs.Words.{symbolPlace, laid, wordIn}
-use Rattle.editing.specs.Edit.{blocksOf, blockBytes, listLength, fecOf, inBlock, blockFrom, elementLocal, listed, picked, editedWord, spareSet}
+use Rattle.editing.specs.Edit.{fecOf, inBlock, blockFrom, elementLocal, listed, picked, editedWord, spareSet}
 
 -- ---- numbers 1 and 2, from the numbers and the four lengths alone
 

@@ -10,23 +10,23 @@ ghost use Rattle.bits.specs.Loops.{first};
 ghost use Rattle.answer.specs.Outcomes.{Outcome};
 ghost use Rattle.hamming.specs.Code.{checksOf};
 ghost use Rattle.lent.specs.Lent.{byteTable};
-ghost use Rattle.line.specs.Sizes.{blockBits, fecBits, fecBlocks, elementBits, superElements, fecElements, infoElements, captureLength, words};
+ghost use Rattle.sizes.specs.Sizes.{blockBits, fecBits, fecBlocks, elementBits, superElements, fecElements, infoElements, captureLength, words, blocksOf, listLength};
 ghost use Rattle.line.specs.Slots.{elementIn};
 ghost use Rattle.line.specs.Words.{symbolPlace, wordIn, fecIn};
-ghost use Rattle.editing.specs.Edit.{blocksOf, listLength, fecOf, blockFrom, change, crcChange, elementLocal, touches, listed, fails, spareSet, editAnswer, editLeaves};
+ghost use Rattle.editing.specs.Edit.{fecOf, blockFrom, change, crcChange, elementLocal, touches, listed, fails, spareSet, editAnswer, editLeaves};
 ghost use Rattle.editing.specs.Parts.{judged, Accepted, onePeriod, firstElement, stretchFrom, stretchTo, newInfoBit, newBit, newElement, parityElement, remade, putWord, Lent, Passing, Turned};
 
 // One period of the scrambler's sequence, and a word's bits more, so that a word can be cut out anywhere.
 const PERIOD_BYTES: usize = 8208;
 
 // The last bit of a client block.
-const BLOCK_LAST: usize = line::BLOCK_BITS - 1;
+const BLOCK_LAST: usize = sizes::BLOCK_BITS - 1;
 
 // The bits of information behind an FEC block's first client block.
-const BEHIND_FIRST: usize = line::INFO_BITS - line::BLOCK_BITS;
+const BEHIND_FIRST: usize = sizes::INFO_BITS - sizes::BLOCK_BITS;
 
 // From the first element of an FEC block on, so many words can hold one of its elements.
-const STRETCH: usize = line::FEC_ELEMENTS + line::LONGEST_WAIT;
+const STRETCH: usize = sizes::FEC_ELEMENTS + sizes::LONGEST_WAIT;
 
 // Replaces client block `block` of a capture of n super frames by the 257 bits of `bits` and its FEC block's parity by `parity`, changes the
 // CRC by what the changed bits leave, and lists the words that hold any of these. The count is how many were listed.
@@ -67,19 +67,19 @@ fn judge(n: u64, block: u64, bits: u64, parity: u64, capture: u64, list: u64) ->
     if 8 < n {
         return answer::refuse(answer::OUTSIDE_SET, 0);
     }
-    if line::SUPER_CLIENT_BLOCKS as u64 * n <= block {
+    if sizes::SUPER_CLIENT_BLOCKS as u64 * n <= block {
         return answer::refuse(answer::OUTSIDE_SET, 0);
     }
-    if bits != editing::BLOCK_BYTES {
+    if bits != sizes::BLOCK_BYTES as u64 {
         return answer::refuse(answer::WRONG_LENGTH, answer::buffer_place(1));
     }
-    if parity != line::PARITY_BYTES as u64 {
+    if parity != sizes::PARITY_BYTES as u64 {
         return answer::refuse(answer::WRONG_LENGTH, answer::buffer_place(2));
     }
-    if capture != line::SUPER_CAPTURE_BYTES as u64 * n + line::FILLER_BYTES as u64 {
+    if capture != sizes::SUPER_CAPTURE_BYTES as u64 * n + sizes::FILLER_BYTES as u64 {
         return answer::refuse(answer::WRONG_LENGTH, answer::buffer_place(3));
     }
-    if list != editing::LIST_LENGTH {
+    if list != sizes::LIST_LENGTH as u64 {
         return answer::refuse(answer::WRONG_LENGTH, answer::buffer_place(4));
     }
     answer::granted(0)
@@ -99,9 +99,9 @@ fn holds_touched(b: usize, m: usize) -> bool
     requires { ⌜ m < fecElements ⌝ }
     ensures { λ r. ⌜ r ≡ touches b (elementBits * m) elementBits ⌝ }
 {
-    let from = line::BLOCK_BITS * (b % line::CLIENT_BLOCKS);
-    line::INFO_ELEMENTS <= m
-        || (from / line::ELEMENT_BITS <= m && m <= (from + BLOCK_LAST) / line::ELEMENT_BITS)
+    let from = sizes::BLOCK_BITS * (b % sizes::CLIENT_BLOCKS);
+    sizes::INFO_ELEMENTS <= m
+        || (from / sizes::ELEMENT_BITS <= m && m <= (from + BLOCK_LAST) / sizes::ELEMENT_BITS)
 }
 
 // The first element of client block b's FEC block.
@@ -109,8 +109,8 @@ fn first_element(b: usize) -> usize
     requires { ⌜ b < blocksOf 8 ⌝ }
     ensures { λ r. ⌜ r ≡ firstElement b ⌝ }
 {
-    line::SUPER_ELEMENTS * (b / line::CLIENT_BLOCKS / line::FEC_BLOCKS)
-        + line::FEC_ELEMENTS * (b / line::CLIENT_BLOCKS % line::FEC_BLOCKS)
+    sizes::SUPER_ELEMENTS * (b / sizes::CLIENT_BLOCKS / sizes::FEC_BLOCKS)
+        + sizes::FEC_ELEMENTS * (b / sizes::CLIENT_BLOCKS % sizes::FEC_BLOCKS)
 }
 
 // Whether word w of n super frames is listed. Its element and 480 more is w and 32 times its row: filler at the start stays below 480, and
@@ -120,11 +120,11 @@ fn is_listed(n: usize, b: usize, w: usize) -> bool
     ensures { λ r. ⌜ r ≡ listed n b w ⌝ }
 {
     let x = w + 32 * (w % 16);
-    let first = first_element(b) + line::LONGEST_WAIT;
+    let first = first_element(b) + sizes::LONGEST_WAIT;
     if x < first {
         return false;
     }
-    if first + line::FEC_ELEMENTS <= x {
+    if first + sizes::FEC_ELEMENTS <= x {
         return false;
     }
     holds_touched(b, x - first)
@@ -135,7 +135,7 @@ fn stretch_from(b: usize) -> usize
     requires { ⌜ b < blocksOf 8 ⌝ }
     ensures { λ r. ⌜ r ≡ stretchFrom b ⌝ }
 {
-    first_element(b) + line::BLOCK_BITS * (b % line::CLIENT_BLOCKS) / line::ELEMENT_BITS
+    first_element(b) + sizes::BLOCK_BITS * (b % sizes::CLIENT_BLOCKS) / sizes::ELEMENT_BITS
 }
 
 // Nor one from here on: none waits longer than 480 words.
@@ -177,7 +177,7 @@ fn first_refused(n: usize, b: usize, capture: &[u8], t: &[u16; 4096]) -> usize
             return w;
         }
     }
-    line::SUPER_ELEMENTS * n + line::LONGEST_WAIT
+    sizes::SUPER_ELEMENTS * n + sizes::LONGEST_WAIT
 }
 
 // ---- the change of the CRC
@@ -210,12 +210,12 @@ fn received_bit(capture: &[u8], scr: &[u8; PERIOD_BYTES], t: usize, i: usize) ->
     requires { ⌜ (now scr ≡ onePeriod) × (t < fecBlocks * 8) × (i < fecBits) ⌝ }
     ensures { λ r. ⌜ r ≡ fecIn (wordIn (now (capture .entry))) t i ⌝ }
 {
-    let k = line::FEC_BITS * (t % line::FEC_BLOCKS) + i;
+    let k = sizes::FEC_BITS * (t % sizes::FEC_BLOCKS) + i;
     let w = line::slot(
-        (line::SUPER_ELEMENTS * (t / line::FEC_BLOCKS) + k / line::ELEMENT_BITS) as u32,
+        (sizes::SUPER_ELEMENTS * (t / sizes::FEC_BLOCKS) + k / sizes::ELEMENT_BITS) as u32,
     );
     add(
-        word_bit(capture, w, k % line::ELEMENT_BITS),
+        word_bit(capture, w, k % sizes::ELEMENT_BITS),
         bits::bit_at(scr, k % scrambler::PERIOD),
     )
 }
@@ -229,8 +229,8 @@ fn changed_bit(b: usize, bits: &[u8], capture: &[u8], scr: &[u8; PERIOD_BYTES], 
         received_bit(
             capture,
             scr,
-            b / line::CLIENT_BLOCKS,
-            line::BLOCK_BITS * (b % line::CLIENT_BLOCKS) + j,
+            b / sizes::CLIENT_BLOCKS,
+            sizes::BLOCK_BITS * (b % sizes::CLIENT_BLOCKS) + j,
         ),
         bits::bit_at(bits, j),
     )
@@ -242,12 +242,12 @@ fn crc_change(b: usize, bits: &[u8], capture: &[u8], scr: &[u8; PERIOD_BYTES]) -
     ensures { λ r. ⌜ r ≡ crcChange b (now (bits .entry)) (fecIn (wordIn (now (capture .entry))) (fecOf b)) ⌝ }
 {
     let mut r: u32 = 0;
-    for j in 0..line::BLOCK_BITS {
+    for j in 0..sizes::BLOCK_BITS {
         r = crc::take(r, changed_bit(b, bits, capture, scr, j));
     }
     crc::shifted(
         r,
-        (BEHIND_FIRST - line::BLOCK_BITS * (b % line::CLIENT_BLOCKS)) as u64,
+        (BEHIND_FIRST - sizes::BLOCK_BITS * (b % sizes::CLIENT_BLOCKS)) as u64,
     )
 }
 
@@ -258,11 +258,11 @@ fn new_info_bit(b: usize, bits: &[u8], scr: &[u8; PERIOD_BYTES], p: usize, k: us
     requires { ⌜ now scr ≡ onePeriod ⌝ }
     ensures { λ r. ⌜ r ≡ newInfoBit b (now (bits .entry)) p k kept ⌝ }
 {
-    let from = line::BLOCK_BITS * (b % line::CLIENT_BLOCKS);
+    let from = sizes::BLOCK_BITS * (b % sizes::CLIENT_BLOCKS);
     if p < from {
         return kept;
     }
-    if from + line::BLOCK_BITS <= p {
+    if from + sizes::BLOCK_BITS <= p {
         return kept;
     }
     add(
@@ -285,17 +285,17 @@ fn new_bit(
     requires { ⌜ now scr ≡ onePeriod ⌝ }
     ensures { λ r. ⌜ r ≡ newBit b (now (bits .entry)) (now (parity .entry)) crc p k x ⌝ }
 {
-    if p < line::INFO_BITS {
+    if p < sizes::INFO_BITS {
         return new_info_bit(b, bits, scr, p, k, x);
     }
-    if p < line::MBAS_FROM {
-        return add(x, ((crc >> (31 - (p - line::INFO_BITS))) % 2) as u8);
+    if p < sizes::MBAS_FROM {
+        return add(x, ((crc >> (31 - (p - sizes::INFO_BITS))) % 2) as u8);
     }
-    if p < line::PARITY_FROM {
+    if p < sizes::PARITY_FROM {
         return x;
     }
     add(
-        bits::bit_at(parity, p - line::PARITY_FROM),
+        bits::bit_at(parity, p - sizes::PARITY_FROM),
         bits::bit_at(scr, k % scrambler::PERIOD),
     )
 }
@@ -314,15 +314,15 @@ fn new_element_bit(
     requires { ⌜ (now scr ≡ onePeriod) × (e % superElements < fecElements * fecBlocks) × (i < 128) ⌝ }
     ensures { λ r. ⌜ r ≡ newElement b (now (bits .entry)) (now (parity .entry)) crc e (now (old .entry)) i ⌝ }
 {
-    let l = e % line::SUPER_ELEMENTS;
+    let l = e % sizes::SUPER_ELEMENTS;
     new_bit(
         b,
         bits,
         parity,
         scr,
         crc,
-        line::ELEMENT_BITS * (l % line::FEC_ELEMENTS) + i,
-        line::ELEMENT_BITS * l + i,
+        sizes::ELEMENT_BITS * (l % sizes::FEC_ELEMENTS) + i,
+        sizes::ELEMENT_BITS * l + i,
         bits::bit_at(old, i),
     )
 }
@@ -373,11 +373,11 @@ fn parity_element(parity: &[u8], scr: &[u8; PERIOD_BYTES], e: usize) -> [u8; 16]
     requires { ⌜ (now scr ≡ onePeriod) × (e % superElements < fecElements * fecBlocks) × (infoElements < elementLocal e) ⌝ }
     ensures { λ r. ⌜ r ≡ pack 16 (parityElement (now (parity .entry)) e) ⌝ }
 {
-    let l = e % line::SUPER_ELEMENTS;
-    let at = line::ELEMENT_BITS * (l % line::FEC_ELEMENTS) - line::PARITY_FROM;
+    let l = e % sizes::SUPER_ELEMENTS;
+    let at = sizes::ELEMENT_BITS * (l % sizes::FEC_ELEMENTS) - sizes::PARITY_FROM;
     capture_words::sum(
         copies::word_from(parity, at),
-        copies::word_from(scr, line::ELEMENT_BITS * l % scrambler::PERIOD),
+        copies::word_from(scr, sizes::ELEMENT_BITS * l % scrambler::PERIOD),
     )
 }
 
@@ -397,7 +397,7 @@ fn new_word(
     ensures { λ r. ⌜ r ≡ remade b (now (bits .entry)) (now (parity .entry)) crc w old ⌝ }
 {
     let e = line::element_in(w);
-    if line::INFO_ELEMENTS < e % line::SUPER_ELEMENTS % line::FEC_ELEMENTS {
+    if sizes::INFO_ELEMENTS < e % sizes::SUPER_ELEMENTS % sizes::FEC_ELEMENTS {
         return lent::encode_by(t, tails, parity_element(parity, scr, e));
     }
     lent::encode_by(t, tails, new_element(b, bits, parity, scr, crc, e, &old))
@@ -500,7 +500,7 @@ fn edit_checked(
 {
     let t = lent::byte_table();
     let w = first_refused(n, b, capture, &t);
-    if w < line::SUPER_ELEMENTS * n + line::LONGEST_WAIT {
+    if w < sizes::SUPER_ELEMENTS * n + sizes::LONGEST_WAIT {
         return answer::refuse(answer::LISTED_FAILS, w as u64);
     }
     answer::granted(replace(n, b, bits, parity, &t, capture, list) as u64)

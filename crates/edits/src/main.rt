@@ -72,7 +72,7 @@ fn fill_input(n: u64, block: u64, room: &mut [u8]) {
     put_bits(room, 257 * b, &client_of(block, 0), 257);
     put_bits(
         room,
-        8 * sizes::information(n) + 16384 * (b / 952),
+        8 * buffer_sizes::information(n) + 16384 * (b / 952),
         &parity_of(block),
         16384,
     );
@@ -82,13 +82,13 @@ fn fill_input(n: u64, block: u64, room: &mut [u8]) {
 fn code_from(n: u64, room: &[u8], capture: &mut [u8])
     requires { ⌜ 1412609 ≡ length (now room) ⌝ }
 {
-    let a = sizes::information(n);
-    let b = a + sizes::parity(n);
+    let a = buffer_sizes::information(n);
+    let b = a + buffer_sizes::parity(n);
     capture::code(n, first_number(n), &room[0..a], &room[a..b], capture);
 }
 
 fn code(n: u64, block: u64, capture: &mut [u8]) {
-    let mut room = sizes::large_space();
+    let mut room = buffer_sizes::large_space();
     fill_input(n, block, &mut room);
     code_from(n, &room, capture);
 }
@@ -163,22 +163,22 @@ fn codes_to(n: u64, block: u64, capture: &[u8], other: &mut [u8]) -> bool {
 
 // Whether the capture is what coding afresh gives.
 fn is_afresh(n: u64, block: u64, capture: &[u8]) -> bool {
-    let mut other = sizes::large_space();
-    let k = sizes::capture(n);
+    let mut other = buffer_sizes::large_space();
+    let k = buffer_sizes::capture(n);
     codes_to(n, block, capture, &mut other[0..k])
 }
 
 fn fills(n: u64, room: &[u8], info: &[u8], parity: &[u8]) -> bool
     requires { ⌜ 1412609 ≡ length (now room) ⌝ }
 {
-    let a = sizes::information(n);
-    let b = a + sizes::parity(n);
+    let a = buffer_sizes::information(n);
+    let b = a + buffer_sizes::parity(n);
     check::same(info, &room[0..a]) && check::same(parity, &room[a..b])
 }
 
 // Whether that is what coding afresh takes.
 fn is_input(n: u64, block: u64, info: &[u8], parity: &[u8]) -> bool {
-    let mut room = sizes::large_space();
+    let mut room = buffer_sizes::large_space();
     fill_input(n, block, &mut room);
     fills(n, &room, info, parity)
 }
@@ -190,10 +190,10 @@ fn reads_into(n: u64, block: u64, capture: &[u8], info: &mut [u8], parity: &mut 
 
 // Whether the capture reads back to that, with nothing to repair.
 fn reads_back(n: u64, block: u64, capture: &[u8]) -> bool {
-    let mut info = sizes::large_space();
-    let mut parity = sizes::small_space();
-    let a = sizes::information(n);
-    let b = sizes::parity(n);
+    let mut info = buffer_sizes::large_space();
+    let mut parity = buffer_sizes::small_space();
+    let a = buffer_sizes::information(n);
+    let b = buffer_sizes::parity(n);
     reads_into(n, block, capture, &mut info[0..a], &mut parity[0..b])
 }
 
@@ -224,8 +224,8 @@ fn edit_coded(
 
 // Edits a block of n super frames in a capture that has as many as `frames` says. A granted edit is compared with coding afresh and read back.
 fn edited(frames: u64, n: u64, block: u64, spare: u8, client: usize, parity: usize, list: usize) {
-    let mut capture = sizes::large_space();
-    let k = sizes::capture(frames);
+    let mut capture = buffer_sizes::large_space();
+    let k = buffer_sizes::capture(frames);
     edit_coded(
         frames,
         n,
@@ -257,8 +257,8 @@ fn say_coded(n: u64, capture: &mut [u8]) {
 
 // The capture as it was coded, and the first block past its end.
 fn past_end(n: u64) {
-    let mut capture = sizes::large_space();
-    let k = sizes::capture(n);
+    let mut capture = buffer_sizes::large_space();
+    let k = buffer_sizes::capture(n);
     say_coded(n, &mut capture[0..k]);
     numbered(n, n, 4760 * (n % 9));
 }
@@ -298,7 +298,7 @@ fn damaged_in(w: usize, i: usize, x: usize, j: usize, spare: u8, capture: &mut [
 
 // Bit i of word w is wrong and bit j of word x. A granted edit keeps them so: turned back, the capture is that of the edit without damage.
 fn damaged(w: usize, i: usize, x: usize, j: usize, spare: u8) {
-    let mut capture = sizes::large_space();
+    let mut capture = buffer_sizes::large_space();
     damaged_in(w, i, x, j, spare, &mut capture[0..183296]);
 }
 
@@ -388,7 +388,7 @@ fn edit_twice(block: u64, capture: &mut [u8]) {
 
 // Valid words that no input was coded to. The same edit once more changes nothing.
 fn never_coded(block: u64) {
-    let mut capture = sizes::large_space();
+    let mut capture = buffer_sizes::large_space();
     edit_twice(block, &mut capture[0..183296]);
 }
 

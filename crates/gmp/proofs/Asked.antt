@@ -10,11 +10,12 @@ use Rattle.answer.specs.Rows.{done, refused, answerOf}
 use Rattle.answer.specs.declared.Answer.{Answer}
 use Rattle.answer.proofs.Table.{row-whole}
 use Rattle.bits.proofs.Common.{or-left, or-right}
-use Rattle.gmp.specs.Places.{places, isData, Place}
+use Rattle.gmp.specs.Places.{isData, Place}
 use Rattle.gmp.specs.Runs.{lastOfRun, runsFrom, EndsRun}
 use Rattle.gmp.specs.Answers.{outsidePlace, Told, told, runOf, runsOf}
 use Rattle.gmp.proofs.Stretches.{last-ends}
 use Rattle.gmp.specs.declared.told.Kind.the-variants.{Stuff, Data}
+use Rattle.sizes.specs.Sizes.{places}
 use Rattle.gmp.specs.declared.told.Run.{Run}
 
 -- not outside: a count and a place

@@ -7,7 +7,8 @@ use native.Mathlib.Omega.{arith}
 use borrow.Author.Tests.{ltb-false, le-ltb}
 use lib.Dec.{ltb}
 use Rattle.bits.proofs.Common.{or-left, or-right, same-test}
-use Rattle.gmp.specs.Places.{places, dataFrom, Stretch, outsideStretch, dataIn, DataIn}
+use Rattle.gmp.specs.Places.{dataFrom, Stretch, outsideStretch, dataIn, DataIn}
+use Rattle.sizes.specs.Sizes.{places}
 use Rattle.gmp.proofs.Floor.{data-split, data-le}
 
 -- not outside: a count and places

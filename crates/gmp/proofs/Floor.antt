@@ -8,7 +8,8 @@ use borrow.Author.Tests.{lt-ltb, le-ltb, ltb-true, ltb-false}
 use lib.Dec.{ltb}
 use Rattle.bits.specs.Loops.{count}
 use Rattle.bits.proofs.Counting.{count-ext, count-add, count-le}
-use Rattle.gmp.specs.Places.{places, isData, dataFrom}
+use Rattle.sizes.specs.Sizes.{places}
+use Rattle.gmp.specs.Places.{isData, dataFrom}
 
 -- one place more: the residue comes round exactly where it is data
 one-more : (x y c : ℕ) (b : Bool) → ltb (y % places) c ≡ b → y ≡ x + c → c ≤ places → cond b (suc (x / places)) (x / places) ≡ y / places

@@ -5,7 +5,8 @@ use mathlib.Core.Path.{_≡_, sym, ap, _∙_}
 use native.Mathlib.Nat.{add-mul, mul-add, mul-le-mul}
 use native.Mathlib.Omega.{arith}
 use borrow.Author.Tests.{lt-ltb, le-ltb, ltb-true, ltb-false}
-use Rattle.gmp.specs.Places.{places, isData, Place}
+use Rattle.sizes.specs.Sizes.{places}
+use Rattle.gmp.specs.Places.{isData, Place}
 
 -- ---- the kind, from the residue and back
 

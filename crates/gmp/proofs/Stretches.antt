@@ -10,7 +10,8 @@ use Rattle.bits.specs.Loops.{first, count}
 use Rattle.bits.proofs.LoopLaws.{First, first-holds, first-is, first-none}
 use Rattle.bits.proofs.Counting.{count-ext, count-add, count-le}
 use Rattle.bits.proofs.Common.{clash}
-use Rattle.gmp.specs.Places.{places, isData}
+use Rattle.gmp.specs.Places.{isData}
+use Rattle.sizes.specs.Sizes.{places}
 use Rattle.gmp.specs.Runs.{changes, lastOfRun, runsFrom, EndsRun}
 
 -- ---- small laws

@@ -6,9 +6,10 @@ use lib.Dec.{ltb}
 use Rattle.answer.specs.Numbers.{allDone, outsideSet}
 use Rattle.answer.specs.Rows.{Row, answerOf, whole}
 use Rattle.answer.specs.declared.Answer.{Answer}
-use Rattle.gmp.specs.Places.{places, kindNumber, kindAt}
+use Rattle.gmp.specs.Places.{kindNumber, kindAt}
 use Rattle.gmp.specs.Runs.{lastOfRun, runsFrom}
 use Rattle.gmp.specs.declared.told.Kind.the-variants.{Stuff}
+use Rattle.sizes.specs.Sizes.{places}
 use Rattle.gmp.specs.declared.told.Run.{Run}
 
 -- the count or the place is outside its stated set

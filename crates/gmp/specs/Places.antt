@@ -7,10 +7,6 @@ use Rattle.bits.specs.Loops.{count}
 use Rattle.gmp.specs.declared.told.Kind.{Kind}
 use Rattle.gmp.specs.declared.told.Kind.the-variants.{Stuff, Data}
 
--- P: the places of an envelope are 1 .. P
-abbrev pub places : ℕ
-places = 10220
-
 -- "For a count C in 0..10,220, place j in 1..10,220 is data if (j·C) mod P < C, else stuff"
 unfoldable pub isData : ℕ → ℕ → Bool
 isData c j = ltb (j * c % places) c

@@ -3,7 +3,8 @@ use Prim.Native.Nat.{ℕ, suc, _+_, _-_, _≤_, _<_}
 use mathlib.Core.Bool.{Bool, not, Bool·beq}
 use mathlib.Core.Path.{_≡_}
 use Rattle.bits.specs.Loops.{first, count}
-use Rattle.gmp.specs.Places.{places, isData}
+use Rattle.sizes.specs.Sizes.{places}
+use Rattle.gmp.specs.Places.{isData}
 
 -- the place behind place j + k is of the other kind
 unfoldable pub changes : ℕ → ℕ → ℕ → Bool

@@ -10,11 +10,9 @@ ghost use Rattle.gmp.specs.Answers.{outsidePlace, told, runOf, runsOf};
 mod told;
 
 use answer::Answer;
+use sizes::PLACES;
 pub use told::Kind;
 pub use told::Run;
-
-// The places of an envelope are 1 to PLACES.
-pub const PLACES: u64 = 10220;
 
 // The kind of place j and the last place of its run.
 pub fn run(c: u64, j: u64) -> Run

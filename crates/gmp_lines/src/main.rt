@@ -84,7 +84,7 @@ fn stuff_run(c: u64, j: u64) -> u64 {
 fn stuff_runs(c: u64) {
     let mut j = 1;
     for i in 0..16u64 {
-        if j <= gmp::PLACES {
+        if j <= sizes::PLACES {
             j = stuff_run(c, j);
         }
     }
@@ -138,7 +138,7 @@ fn first_lines() {
 }
 
 fn table() {
-    for c in 10214..gmp::PLACES + 1 {
+    for c in 10214..sizes::PLACES + 1 {
         table_row(c);
     }
 }

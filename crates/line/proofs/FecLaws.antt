@@ -10,7 +10,7 @@ use lib.ListN.{length}
 use Rattle.bits.specs.Bits.{digit, bitAt, pack, Bits, Bytes}
 use Rattle.bits.proofs.Numbers.{digit-lt}
 use Rattle.bits.proofs.Packing.{bitOf-lt, packs-ext, packs-bitOf}
-use Rattle.line.specs.Sizes.{infoBits, crcBits, mbasBits, parityBits, mbasFrom, parityFrom, fecBits, infoLength, parityLength}
+use Rattle.sizes.specs.Sizes.{infoBits, crcBits, mbasBits, parityBits, mbasFrom, parityFrom, fecBits, infoLength, parityLength}
 use Rattle.line.specs.Fec.{mbasOf, fields, infoBit, parityBit, blockCrc, fecBit}
 use Rattle.line.specs.Frames.{infoOf, parityOf}
 

@@ -8,7 +8,7 @@ use borrow.Author.Tests.{lt-ltb, le-ltb}
 use lib.Dec.{ltb}
 use Rattle.bits.specs.Bits.{Bits}
 use Rattle.scrambler.specs.Scrambler.{o}
-use Rattle.line.specs.Sizes.{fecBits, fecBlocks, padFrom, superBits, elementBits, superElements, fecElements}
+use Rattle.sizes.specs.Sizes.{fecBits, fecBlocks, padFrom, superBits, elementBits, superElements, fecElements}
 use Rattle.line.specs.Frames.{superOf, elementOf, superFrom, fecFrom}
 
 twice : (a b : ℕ) → a < 2 → ((a + b) % 2 + b) % 2 ≡ a

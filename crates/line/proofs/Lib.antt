@@ -1,5 +1,4 @@
 -- The laws of `specs/`.
-pub mod SizeLaws
 pub mod FecLaws
 pub mod FrameLaws
 pub mod SlotLaws

@@ -10,7 +10,7 @@ use Rattle.bits.specs.Loops.{count}
 use Rattle.bits.specs.Bits.{Bits}
 use Rattle.bits.proofs.Counting.{count-ext}
 use Rattle.bits.proofs.Common.{and-left, and-right}
-use Rattle.line.specs.Sizes.{superElements, words, longestWait}
+use Rattle.sizes.specs.Sizes.{superElements, words, longestWait}
 use Rattle.line.specs.Slots.{delay, slotOf, elementIn, holds, slotBit}
 
 -- a slot has its element's row, and so its delay

@@ -8,7 +8,7 @@ use lib.ListN.{length, getD}
 use Rattle.bits.specs.Bits.{Bytes}
 use Rattle.bits.proofs.Common.{by-bound}
 use Rattle.bits.proofs.Lists.{length-tabulate, getD-tabulate, getD-past, tabulate-ext, is-table}
-use Rattle.line.specs.Sizes.{captureLength, words}
+use Rattle.sizes.specs.Sizes.{captureLength, words}
 use Rattle.line.specs.Words.{symbolPlace, wordAt, symbolAt, laid, symbolOf, wordIn}
 
 -- ---- places: the word and the symbol of a byte, and the byte of a symbol of a word

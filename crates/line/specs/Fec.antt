@@ -5,7 +5,7 @@ use mathlib.Core.List.{List}
 use lib.Dec.{ltb}
 use Rattle.bits.specs.Bits.{digit, bitAt}
 use Rattle.crc.specs.Crc.{crcOf}
-use Rattle.line.specs.Sizes.{infoBits, crcBits, mbasBits, parityBits, mbasFrom, parityFrom}
+use Rattle.sizes.specs.Sizes.{infoBits, crcBits, mbasBits, parityBits, mbasFrom, parityFrom}
 
 -- MBAS: which first numbers m0 are allowed, and what FEC block t of the capture carries
 unfoldable pub mbasAllowed : ℕ → Bool

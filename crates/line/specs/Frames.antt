@@ -6,7 +6,7 @@ use mathlib.Core.List.{List}
 use lib.Dec.{ltb}
 use Rattle.bits.specs.Bits.{pack}
 use Rattle.scrambler.specs.Scrambler.{o}
-use Rattle.line.specs.Sizes.{infoBits, parityBits, parityFrom, fecBits, fecBlocks, padFrom, elementBits, superElements, infoLength, parityLength}
+use Rattle.sizes.specs.Sizes.{infoBits, parityBits, parityFrom, fecBits, fecBlocks, padFrom, elementBits, superElements, infoLength, parityLength}
 
 -- bit k of super frame f, of FEC blocks with the bits F: five of them, and the pad, which is zero
 unfoldable pub superOf : (ℕ → ℕ → ℕ) → ℕ → ℕ → ℕ

@@ -3,7 +3,7 @@
 use Prim.Native.Nat.{ℕ, _+_, _-_, _*_, _%_}
 use mathlib.Core.Bool.{Bool, cond, _&&_}
 use lib.Dec.{ltb, leb}
-use Rattle.line.specs.Sizes.{superElements}
+use Rattle.sizes.specs.Sizes.{superElements}
 
 -- how many words an element waits: by its row, the first row longest
 unfoldable pub delay : ℕ → ℕ

@@ -5,7 +5,7 @@ use mathlib.Core.List.{List}
 use lib.ListN.{getD}
 use Rattle.bits.specs.Bits.{tabulate, bitAt}
 use Rattle.hamming.specs.Code.{coded}
-use Rattle.line.specs.Sizes.{captureLength}
+use Rattle.sizes.specs.Sizes.{captureLength}
 use Rattle.line.specs.Frames.{superOf, elementOf, superFrom, fecFrom}
 use Rattle.line.specs.Slots.{slotOf, slotBit}
 

@@ -5,66 +5,6 @@ ghost use Rattle.line.specs.Captures.{superAllowed};
 ghost use Rattle.line.specs.Fec.{mbasAllowed, mbasOf};
 ghost use Rattle.line.specs.Slots.{slotOf, delay, elementIn, holds};
 
-// ---- the sizes of document 01, as `specs/Sizes.antt` names them: bits, bytes and elements of a client block, an FEC block, a super frame,
-// and what follows from them
-
-pub const BLOCK_BITS: usize = 257;
-
-pub const CLIENT_BLOCKS: usize = 952;
-
-pub const INFO_BITS: usize = CLIENT_BLOCKS * BLOCK_BITS;
-
-pub const INFO_BYTES: usize = INFO_BITS / 8;
-
-const CRC_BITS: usize = 32;
-
-pub const MBAS_FROM: usize = INFO_BITS + CRC_BITS;
-
-const MBAS_BITS: usize = 6;
-
-pub const PARITY_FROM: usize = MBAS_FROM + MBAS_BITS;
-
-pub const PARITY_BITS: usize = 16384;
-
-pub const PARITY_BYTES: usize = PARITY_BITS / 8;
-
-pub const FEC_BITS: usize = PARITY_FROM + PARITY_BITS;
-
-pub const FEC_BLOCKS: usize = 5;
-
-pub const PAD_FROM: usize = FEC_BLOCKS * FEC_BITS;
-
-pub const PAD_BITS: usize = 714;
-
-pub const ELEMENT_BITS: usize = 119;
-
-pub const INFO_ELEMENTS: usize = INFO_BITS / ELEMENT_BITS;
-
-pub const FEC_ELEMENTS: usize = FEC_BITS / ELEMENT_BITS;
-
-pub const SUPER_ELEMENTS: usize = (PAD_FROM + PAD_BITS) / ELEMENT_BITS;
-
-// The first element of a super frame's pad.
-pub const PAD_ELEMENT: usize = FEC_BLOCKS * FEC_ELEMENTS;
-
-pub const SUPER_CLIENT_BLOCKS: usize = FEC_BLOCKS * CLIENT_BLOCKS;
-
-pub const SUPER_INFO_BYTES: usize = FEC_BLOCKS * INFO_BYTES;
-
-pub const SUPER_PARITY_BYTES: usize = FEC_BLOCKS * PARITY_BYTES;
-
-// So many words the first row waits in the interleaver: as many more than elements a capture has.
-pub const LONGEST_WAIT: usize = 480;
-
-pub const WORD_BYTES: usize = 16;
-
-// What a super frame adds to a capture, and what a capture has besides.
-pub const SUPER_CAPTURE_BYTES: usize = WORD_BYTES * SUPER_ELEMENTS;
-
-pub const FILLER_BYTES: usize = WORD_BYTES * LONGEST_WAIT;
-
-// ----
-
 // Whether a capture may have n super frames.
 pub fn super_allowed(n: u64) -> bool
     ensures { λ r. ⌜ r ≡ superAllowed n ⌝ }
@@ -119,5 +59,5 @@ pub fn holds_element(n: usize, w: usize) -> bool
     if w < d {
         return false;
     }
-    (w - d) / SUPER_ELEMENTS < n
+    (w - d) / sizes::SUPER_ELEMENTS < n
 }

@@ -8,11 +8,12 @@ use borrow.Author.Tests.{ltb-true, ltb-false}
 use lib.Dec.{ltb}
 use Rattle.bits.specs.Bits.{tabulate, byteOf, pack}
 use Rattle.gmp.specs.Places.{isData, dataFrom, dataIn}
-use Rattle.windows.specs.Windows.{groupBits, Window, pairBytes}
+use Rattle.windows.specs.Windows.{Window}
 use Rattle.mapping.specs.Groups.{windowBit, groupPlace, groupsBit, piece, pairBit}
 use Rattle.gmp.proofs.Floor.{data-grows}
 use Rattle.gmp.proofs.Counts.{data-inside}
 use Rattle.windows.proofs.Judging.{stretch-of, data-window}
+use Rattle.sizes.specs.Sizes.{groupBits, pairBytes}
 use Rattle.mapping.proofs.Pairs.{pack-part}
 
 -- bit i of a stretch of pieces of s: piece m is there where `on m` says so, and is piece `at m` of s

@@ -11,7 +11,7 @@ use Rattle.bits.specs.Bits.{tabulate, num, bitAt, byteOf, pack, Bits}
 use Rattle.bits.proofs.Lists.{tabulate-ext, Filled, filled-block}
 use Rattle.bits.proofs.Numbers.{num-ext, num-split, num-front, num-zero}
 use Rattle.bits.proofs.Packing.{bitOf-lt}
-use Rattle.windows.specs.Windows.{groupBits}
+use Rattle.sizes.specs.Sizes.{groupBits}
 use Rattle.mapping.specs.Groups.{piece, pairBit}
 
 piece-lt : (s : List ℕ) (on : Bool) → Bits (piece s on)

@@ -9,11 +9,12 @@ use borrow.Author.Tests.{lt-ltb, le-ltb, ltb-true, ltb-false}
 use lib.Dec.{ltb}
 use Rattle.bits.specs.Loops.{first}
 use Rattle.bits.proofs.LoopLaws.{First, first-holds, first-is, first-none}
-use Rattle.gmp.specs.Places.{places, isData, dataFrom, dataIn}
+use Rattle.gmp.specs.Places.{isData, dataFrom, dataIn}
 use Rattle.windows.specs.Windows.{Window}
 use Rattle.mapping.specs.Groups.{groupPlace, GroupAt}
 use Rattle.gmp.proofs.Counts.{before-product}
 use Rattle.windows.proofs.Judging.{stretch-of, data-window}
+use Rattle.sizes.specs.Sizes.{places}
 use Rattle.gmp.proofs.Floor.{before, data-split, data-le, data-more, data-mono}
 
 -- ---- a quotient rounded up

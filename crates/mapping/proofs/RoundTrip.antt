@@ -16,10 +16,11 @@ use Rattle.answer.specs.Rows.{done}
 use Rattle.answer.specs.declared.Answer.{Answer}
 use Rattle.answer.proofs.Meets.{written-done}
 use Rattle.gmp.specs.Places.{isData, dataFrom}
-use Rattle.windows.specs.Windows.{groupBits, groupBytes, windowBytes, Window, spareSet}
+use Rattle.windows.specs.Windows.{Window, spareSet}
 use Rattle.mapping.specs.Groups.{windowBit, groupPlace, groupsBit, Mapped, Unmapped}
 use Rattle.windows.specs.Answers.{mapAnswer, unmapAnswer}
 use Rattle.mapping.proofs.Ranks.{Stands, stands}
+use Rattle.sizes.specs.Sizes.{groupBits, groupBytes, windowBytes}
 use Rattle.windows.proofs.Judging.{data-window, map-taken, map-done, unmap-done}
 
 window-lt : (c f : ℕ) (g : List ℕ) → Bits (windowBit c f g)

@@ -9,8 +9,8 @@ use Rattle.bits.specs.Bits.{bitAt, pack}
 use Rattle.bits.specs.Loops.{first}
 use Rattle.answer.specs.Outcomes.{Outcome, written}
 use Rattle.answer.specs.declared.Answer.{Answer}
-use Rattle.gmp.specs.Places.{places, isData, dataFrom}
-use Rattle.windows.specs.Windows.{groupBits, groupBytes, windowBytes}
+use Rattle.gmp.specs.Places.{isData, dataFrom}
+use Rattle.sizes.specs.Sizes.{places, groupBits, groupBytes, windowBytes}
 use Rattle.windows.specs.Answers.{mapAnswer, unmapAnswer}
 
 -- bit i of the window: it belongs to place f + i / groupBits, which holds the next data group, or stuff, "all zero"

@@ -3,13 +3,14 @@ ghost use mathlib.Core.Path.{_≡_};
 ghost use Prim.Native.Nat.{_+_, _*_, _/_, _≤_, _<_, min};
 ghost use lib.ListN.{length};
 ghost use Rattle.bits.specs.Bits.{num, byteOf, pack, tabulate};
-ghost use Rattle.gmp.specs.Places.{places, dataFrom, DataIn};
-ghost use Rattle.windows.specs.Windows.{groupBits, pairBytes, groupBytes, windowBytes, Window};
+ghost use Rattle.gmp.specs.Places.{dataFrom, DataIn};
+ghost use Rattle.windows.specs.Windows.{Window};
+ghost use Rattle.sizes.specs.Sizes.{places, groupBits, pairBytes, groupBytes, windowBytes};
 ghost use Rattle.mapping.specs.Groups.{windowBit, GroupAt, groupsBit, piece, pairBit, Mapped, Unmapped};
 use answer::Answer;
-use gmp::PLACES;
-use windows::GROUP_BITS;
-use windows::PAIR_BYTES;
+use sizes::GROUP_BITS;
+use sizes::PAIR_BYTES;
+use sizes::PLACES;
 
 // Writes the data groups into their places of a window, and zeros into stuff.
 pub fn map(c: u64, f: u64, n: u64, groups: &[u8], window: &mut [u8]) -> Answer

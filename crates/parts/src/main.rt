@@ -23,15 +23,15 @@ fn ask(n: u64, last: u64, info: &[u8]) {
 }
 
 fn parts(n: u64, last: u64) {
-    let mut info = sizes::large_space();
-    let a = sizes::information(n);
+    let mut info = buffer_sizes::large_space();
+    let a = buffer_sizes::information(n);
     made::fill(made::start(100 + n % 9), &mut info);
     ask(n, last, &info[0..a]);
 }
 
 // A request that is refused, with an information of the length given.
 fn named(name: &[u8], n: u64, t: u64, length: usize) {
-    let mut info = sizes::large_space();
+    let mut info = buffer_sizes::large_space();
     let a = length % 1412610;
     made::fill(made::start(101), &mut info);
     said::text(name);

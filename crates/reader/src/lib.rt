@@ -17,7 +17,7 @@ ghost use Rattle.hamming.specs.Code.{checksOf};
 ghost use Rattle.matrix.specs.Sums.{positionTable};
 ghost use Rattle.lent.specs.Lent.{byteTable};
 ghost use Rattle.hamming.specs.Repair.{repairOf};
-ghost use Rattle.line.specs.Sizes.{infoBits, fecBits, fecBlocks, superBytes, infoLength, parityLength, words};
+ghost use Rattle.sizes.specs.Sizes.{infoBits, fecBits, fecBlocks, superBytes, infoLength, parityLength, words};
 ghost use Rattle.line.specs.Frames.{infoOf, parityOf};
 ghost use Rattle.line.specs.Slots.{slotOf, holds};
 ghost use Rattle.line.specs.Words.{wordIn, fecIn};
@@ -25,7 +25,7 @@ ghost use Rattle.reading.specs.Read.{repaired, allZero, readAnswer, readLeaves}
 ghost use Rattle.reading.specs.Parts.{Accepted, OneIf, Tables, sequence, soughtOf, wordsTo, frameOf, followed, plainByte, mbasOff, crcOff, padOff, blockTaken, framesTo, infoIn, parityIn, lateAnswer, lateLeaves};
 
 // The pad in whole bytes.
-const PAD_BYTES: usize = (line::PAD_BITS + 7) / 8;
+const PAD_BYTES: usize = (sizes::PAD_BITS + 7) / 8;
 
 // Takes n super frames, whose FEC blocks count from m0 on, and a capture, and fills information and parity. The count is that of the
 // words whose checks were not zero.
@@ -201,7 +201,7 @@ fn tally_words(t: &[u16; 4096], positions: &[u8; 512], n: usize, capture: &[u8])
         filler: 0,
         seen: 0,
     };
-    for w in 0..line::SUPER_ELEMENTS * n + line::LONGEST_WAIT {
+    for w in 0..sizes::SUPER_ELEMENTS * n + sizes::LONGEST_WAIT {
         s = take_word(t, positions, n, capture, w, s);
     }
     s
@@ -267,9 +267,9 @@ fn frame(
     requires { ⌜ Tables (now t) (now positions) × (now scr ≡ sequence) × (f < 8) × (length (now out) ≡ superBytes) ⌝ }
     ensures { λ _. ⌜ now (out .exit) ≡ frameOf (now (capture .entry)) f ⌝ }
 {
-    let mut here = element(t, positions, capture, line::SUPER_ELEMENTS * f);
-    for l in 0..line::SUPER_ELEMENTS {
-        let next = element(t, positions, capture, line::SUPER_ELEMENTS * f + (l + 1));
+    let mut here = element(t, positions, capture, sizes::SUPER_ELEMENTS * f);
+    for l in 0..sizes::SUPER_ELEMENTS {
+        let next = element(t, positions, capture, sizes::SUPER_ELEMENTS * f + (l + 1));
         let a = 15 * l - l / 8;
         let e = 15 * (l + 1) - (l + 1) / 8;
         let v = follow(here, next);
@@ -294,7 +294,7 @@ fn is_mbas_off(m0: u64, s: &[u8], t: usize, b: usize) -> bool
     requires { ⌜ b < fecBlocks ⌝ }
     ensures { λ r. ⌜ r ≡ mbasOff m0 (now (s .entry)) t b ⌝ }
 {
-    bits::byte_from(s, line::FEC_BITS * b + line::MBAS_FROM) / 4 != line::mbas(m0, t as u64)
+    bits::byte_from(s, sizes::FEC_BITS * b + sizes::MBAS_FROM) / 4 != line::mbas(m0, t as u64)
 }
 
 // The CRC of the information of block b.
@@ -302,8 +302,8 @@ fn block_crc(crcs: &[u32; 256], s: &[u8], b: usize) -> u32
     requires { ⌜ (now crcs ≡ entries) × (b < fecBlocks) ⌝ }
     ensures { λ r. ⌜ r ≡ crcOf infoBits (from (bitAt (now (s .entry))) (fecBits * b)) ⌝ }
 {
-    let mut block = [0u8; line::INFO_BYTES];
-    copies::copy(s, line::FEC_BITS * b, &mut block);
+    let mut block = [0u8; sizes::INFO_BYTES];
+    copies::copy(s, sizes::FEC_BITS * b, &mut block);
     crc::crc(crcs, &block)
 }
 
@@ -311,7 +311,7 @@ fn is_crc_off(crcs: &[u32; 256], s: &[u8], b: usize) -> bool
     requires { ⌜ (now crcs ≡ entries) × (b < fecBlocks) ⌝ }
     ensures { λ r. ⌜ r ≡ crcOff (now (s .entry)) b ⌝ }
 {
-    long_from(s, line::FEC_BITS * b + line::INFO_BITS) != block_crc(crcs, s, b)
+    long_from(s, sizes::FEC_BITS * b + sizes::INFO_BITS) != block_crc(crcs, s, b)
 }
 
 // Whether a pad bit is not zero. The last of its bytes reaches past the end, where there are zeros.
@@ -320,7 +320,7 @@ fn is_pad_off(s: &[u8]) -> bool
     ensures { λ r. ⌜ r ≡ padOff (now (s .entry)) ⌝ }
 {
     for k in 0..PAD_BYTES {
-        if bits::byte_from(s, line::PAD_FROM + 8 * k) != 0 {
+        if bits::byte_from(s, sizes::PAD_FROM + 8 * k) != 0 {
             return true;
         }
     }
@@ -332,7 +332,7 @@ fn take_block(crcs: &[u32; 256], m0: u64, s: &[u8], f: usize, b: usize, x: Block
     requires { ⌜ (now crcs ≡ entries) × (f < 8) × (b < fecBlocks) ⌝ }
     ensures { λ r. ⌜ r ≡ blockTaken m0 (now (s .entry)) f b x ⌝ }
 {
-    let t = line::FEC_BLOCKS * f + b;
+    let t = sizes::FEC_BLOCKS * f + b;
     BlockTally {
         mbas: sought(x.mbas, t, is_mbas_off(m0, s, t, b)),
         crc: sought(x.crc, t, is_crc_off(crcs, s, b)),
@@ -346,7 +346,7 @@ fn take_blocks(crcs: &[u32; 256], m0: u64, s: &[u8], f: usize, x: BlockTally) ->
     ensures { λ r. ⌜ r ≡ upto (blockTaken m0 (now (s .entry)) f) x fecBlocks ⌝ }
 {
     let mut y = x;
-    for b in 0..line::FEC_BLOCKS {
+    for b in 0..sizes::FEC_BLOCKS {
         y = take_block(crcs, m0, s, f, b, y);
     }
     y
@@ -408,14 +408,14 @@ fn write_blocks(s: &[u8], info: &mut [u8], parity: &mut [u8])
     requires { ⌜ (length (now info) ≡ infoLength 1) × (length (now parity) ≡ parityLength 1) ⌝ }
     ensures { λ _. ⌜ (now (info .exit) ≡ pack (infoLength 1) (infoIn (now (s .entry)))) × (now (parity .exit) ≡ pack (parityLength 1) (parityIn (now (s .entry)))) ⌝ }
 {
-    for b in 0..line::FEC_BLOCKS {
-        let i = line::INFO_BYTES * b;
-        let p = line::PARITY_BYTES * b;
-        copies::copy(s, line::FEC_BITS * b, &mut info[i..i + line::INFO_BYTES]);
+    for b in 0..sizes::FEC_BLOCKS {
+        let i = sizes::INFO_BYTES * b;
+        let p = sizes::PARITY_BYTES * b;
+        copies::copy(s, sizes::FEC_BITS * b, &mut info[i..i + sizes::INFO_BYTES]);
         copies::copy(
             s,
-            line::FEC_BITS * b + line::PARITY_FROM,
-            &mut parity[p..p + line::PARITY_BYTES],
+            sizes::FEC_BITS * b + sizes::PARITY_FROM,
+            &mut parity[p..p + sizes::PARITY_BYTES],
         );
     }
 }
@@ -435,13 +435,13 @@ fn write_frames(
     ensures { λ _. ⌜ (now (info .exit) ≡ infoOf n (fecIn (repaired (now (capture .entry))))) × (now (parity .exit) ≡ parityOf n (fecIn (repaired (now (capture .entry))))) ⌝ }
 {
     for f in 0..n {
-        let i = line::SUPER_INFO_BYTES * f;
-        let p = line::SUPER_PARITY_BYTES * f;
+        let i = sizes::SUPER_INFO_BYTES * f;
+        let p = sizes::SUPER_PARITY_BYTES * f;
         frame(t, positions, scr, capture, f, buffer);
         write_blocks(
             buffer,
-            &mut info[i..i + line::SUPER_INFO_BYTES],
-            &mut parity[p..p + line::SUPER_PARITY_BYTES],
+            &mut info[i..i + sizes::SUPER_INFO_BYTES],
+            &mut parity[p..p + sizes::SUPER_PARITY_BYTES],
         );
     }
 }

@@ -14,7 +14,7 @@ use Rattle.bits.proofs.Common.{by-bound}
 use Rattle.bits.proofs.Numbers.{num-ext, num-zero, digit-num}
 use Rattle.bits.proofs.Packing.{bitOf-lt, bitOf-past}
 use Rattle.crc.proofs.Changes.{crc-ext}
-use Rattle.line.specs.Sizes.{infoBits, crcBits, mbasBits, mbasFrom, fecBits, fecBlocks, padFrom, padBits, superBytes}
+use Rattle.sizes.specs.Sizes.{infoBits, crcBits, mbasBits, mbasFrom, fecBits, fecBlocks, padFrom, padBits, superBytes}
 use Rattle.line.specs.Fec.{mbasOf}
 use Rattle.line.specs.Words.{superIn, fecIn}
 use Rattle.reading.specs.Read.{repaired, mbasDiffers, crcDiffers, padDiffers}

@@ -7,7 +7,7 @@ use Rattle.bits.specs.Loops.{count}
 use Rattle.answer.specs.Numbers.{allDone}
 use Rattle.answer.specs.Rows.{done, refused, Applies, Least, rising}
 use Rattle.answer.proofs.Table.{answered-least, least-answered, answered-done, done-answered, refusal-count}
-use Rattle.line.specs.Sizes.{words}
+use Rattle.sizes.specs.Sizes.{words}
 use Rattle.reading.specs.Read.{isSeen, readRows, readAnswer}
 
 -- the rows stand in the order of their numbers

@@ -15,7 +15,7 @@ use Rattle.answer.specs.declared.Answer.{Answer}
 use Rattle.answer.proofs.Table.{row-whole, row-buffers, inTurn}
 use Rattle.bits.proofs.Common.{and-left, and-right}
 use Rattle.answer.proofs.Meets.{meets-done, meets-refused}
-use Rattle.line.specs.Sizes.{fecBlocks, infoLength, parityLength, captureLength, words}
+use Rattle.sizes.specs.Sizes.{fecBlocks, infoLength, parityLength, captureLength, words}
 use Rattle.line.specs.Captures.{superAllowed, wrong}
 use Rattle.line.specs.Fec.{mbasAllowed}
 use Rattle.line.specs.Frames.{infoOf, parityOf}

@@ -18,7 +18,7 @@ use Rattle.scrambler.specs.Scrambler.{o}
 use Rattle.scrambler.proofs.Rule.{o-lt}
 use Rattle.hamming.specs.Code.{joined}
 use Rattle.hamming.proofs.Words.{joined-low, joined-high, joined-bit}
-use Rattle.line.specs.Sizes.{infoBits, parityBits, parityFrom, fecBits, infoBytes, parityBytes, fecBlocks, superBits, superBytes, superElements, elementBits, superInfoBytes, superParityBytes}
+use Rattle.sizes.specs.Sizes.{infoBits, parityBits, parityFrom, fecBits, infoBytes, parityBytes, fecBlocks, superBits, superBytes, superElements, elementBits, superInfoBytes, superParityBytes}
 use Rattle.line.specs.Frames.{superFrom, fecFrom}
 use Rattle.line.specs.Slots.{slotOf}
 use Rattle.line.specs.Words.{elementFrom, superIn, fecIn}

@@ -18,7 +18,7 @@ use Rattle.scrambler.specs.Scrambler.{o}
 use Rattle.hamming.specs.Code.{joinedWord}
 use Rattle.matrix.specs.Sums.{positionTable}
 use Rattle.lent.specs.Lent.{byteTable}
-use Rattle.line.specs.Sizes.{infoBits, crcBits, mbasBits, parityBits, mbasFrom, parityFrom, fecBits, fecBlocks, padFrom, padBits, superBytes, infoLength, parityLength, captureLength, words}
+use Rattle.sizes.specs.Sizes.{infoBits, crcBits, mbasBits, parityBits, mbasFrom, parityFrom, fecBits, fecBlocks, padFrom, padBits, superBytes, infoLength, parityLength, captureLength, words}
 use Rattle.line.specs.Captures.{superAllowed}
 use Rattle.line.specs.Fec.{mbasAllowed, mbasOf}
 use Rattle.line.specs.Frames.{infoOf, parityOf}

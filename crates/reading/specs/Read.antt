@@ -13,7 +13,7 @@ use Rattle.answer.specs.declared.Answer.{Answer}
 use Rattle.crc.specs.Crc.{crcOf}
 use Rattle.hamming.specs.Code.{checksOf}
 use Rattle.hamming.specs.Repair.{repairOf, numberOf}
-use Rattle.line.specs.Sizes.{infoBits, crcBits, mbasBits, mbasFrom, fecBlocks, padFrom, padBits, infoLength, parityLength, captureLength, words}
+use Rattle.sizes.specs.Sizes.{infoBits, crcBits, mbasBits, mbasFrom, fecBlocks, padFrom, padBits, infoLength, parityLength, captureLength, words}
 use Rattle.line.specs.Captures.{superAllowed, wrong}
 use Rattle.line.specs.Fec.{mbasAllowed, mbasOf}
 use Rattle.line.specs.Frames.{infoOf, parityOf}

@@ -30,13 +30,13 @@ pub fn judge(n: u64, m0: u64, capture_len: u64, info_len: u64, parity_len: u64) 
     if is_outside(n, m0) {
         return answer::refuse(answer::OUTSIDE_SET, 0);
     }
-    if capture_len != line::SUPER_CAPTURE_BYTES as u64 * n + line::FILLER_BYTES as u64 {
+    if capture_len != sizes::SUPER_CAPTURE_BYTES as u64 * n + sizes::FILLER_BYTES as u64 {
         return answer::refuse(answer::WRONG_LENGTH, answer::buffer_place(1));
     }
-    if info_len != line::SUPER_INFO_BYTES as u64 * n {
+    if info_len != sizes::SUPER_INFO_BYTES as u64 * n {
         return answer::refuse(answer::WRONG_LENGTH, answer::buffer_place(2));
     }
-    if parity_len != line::SUPER_PARITY_BYTES as u64 * n {
+    if parity_len != sizes::SUPER_PARITY_BYTES as u64 * n {
         return answer::refuse(answer::WRONG_LENGTH, answer::buffer_place(3));
     }
     answer::granted(0)
@@ -60,16 +60,16 @@ pub fn verdict(n: u32, w: WordTally, b: BlockTally) -> Answer
     ensures { λ r. ⌜ r ≡ verdictOf n w b ⌝ }
 {
     let frames = n as usize;
-    if w.beyond < line::SUPER_ELEMENTS * frames + line::LONGEST_WAIT {
+    if w.beyond < sizes::SUPER_ELEMENTS * frames + sizes::LONGEST_WAIT {
         return answer::refuse(answer::BEYOND_REPAIR, w.beyond as u64);
     }
-    if w.filler < line::SUPER_ELEMENTS * frames + line::LONGEST_WAIT {
+    if w.filler < sizes::SUPER_ELEMENTS * frames + sizes::LONGEST_WAIT {
         return answer::refuse(answer::FILLER_NOT_ZERO, w.filler as u64);
     }
-    if b.mbas < line::FEC_BLOCKS * frames {
+    if b.mbas < sizes::FEC_BLOCKS * frames {
         return answer::refuse(answer::WRONG_MBAS, b.mbas as u64);
     }
-    if b.crc < line::FEC_BLOCKS * frames {
+    if b.crc < sizes::FEC_BLOCKS * frames {
         return answer::refuse(answer::WRONG_CRC, b.crc as u64);
     }
     if b.pad < frames {

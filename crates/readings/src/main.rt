@@ -23,13 +23,13 @@ fn fill(seed: u64, out: &mut [u8]) {
 fn code_from(n: u64, room: &[u8], capture: &mut [u8])
     requires { ⌜ 1412609 ≡ length (now room) ⌝ }
 {
-    let a = sizes::information(n);
-    let b = a + sizes::parity(n);
+    let a = buffer_sizes::information(n);
+    let b = a + buffer_sizes::parity(n);
     capture::code(n, first_number(n), &room[0..a], &room[a..b], capture);
 }
 
 fn code(n: u64, capture: &mut [u8]) {
-    let mut room = sizes::large_space();
+    let mut room = buffer_sizes::large_space();
     fill(100 + n % 9, &mut room);
     code_from(n, &room, capture);
 }
@@ -40,7 +40,7 @@ fn digest_of(seed: u64, from: usize, to: usize) -> u64 {
     if b < from {
         return 0;
     }
-    let mut room = sizes::large_space();
+    let mut room = buffer_sizes::large_space();
     fill(seed, &mut room);
     made::digest(&room[from..b])
 }
@@ -71,8 +71,8 @@ fn read_in(n: u64, m0: u64, capture: &[u8], info: &mut [u8], parity: &mut [u8]) 
 
 // Reads into buffers of the lengths given and writes what came.
 fn read(n: u64, m0: u64, capture: &[u8], info: usize, parity: usize) {
-    let mut i = sizes::large_space();
-    let mut p = sizes::small_space();
+    let mut i = buffer_sizes::large_space();
+    let mut p = buffer_sizes::small_space();
     let a = info % 1412610;
     let b = parity % 81922;
     read_in(n, m0, capture, &mut i[0..a], &mut p[0..b]);
@@ -80,7 +80,13 @@ fn read(n: u64, m0: u64, capture: &[u8], info: usize, parity: usize) {
 
 // The same with buffers of the stated lengths.
 fn read_stated(n: u64, m0: u64, capture: &[u8]) {
-    read(n, m0, capture, sizes::information(n), sizes::parity(n));
+    read(
+        n,
+        m0,
+        capture,
+        buffer_sizes::information(n),
+        buffer_sizes::parity(n),
+    );
 }
 
 fn name(n: u64, what: &[u8]) {
@@ -129,8 +135,8 @@ fn damaged_in(n: u64, m0: u64, w: usize, v: [u8; 16], x: usize, u: [u8; 16], cap
 }
 
 fn counted_from(n: u64, m0: u64, w: usize, v: [u8; 16], x: usize, u: [u8; 16]) {
-    let mut capture = sizes::large_space();
-    let k = sizes::capture(n);
+    let mut capture = buffer_sizes::large_space();
+    let k = buffer_sizes::capture(n);
     damaged_in(n, m0, w, v, x, u, &mut capture[0..k]);
 }
 
@@ -169,8 +175,8 @@ fn all_in(n: u64, capture: &mut [u8]) {
 }
 
 fn every_word(n: u64) {
-    let mut capture = sizes::large_space();
-    let k = sizes::capture(n);
+    let mut capture = buffer_sizes::large_space();
+    let k = buffer_sizes::capture(n);
     name(n, b" one flip in every word");
     all_in(n, &mut capture[0..k]);
 }
@@ -269,8 +275,8 @@ fn parity_turned(n: u64) {
 // ---- all of n super frames
 
 fn say_made(n: u64) {
-    let a = sizes::information(n);
-    let b = a + sizes::parity(n);
+    let a = buffer_sizes::information(n);
+    let b = a + buffer_sizes::parity(n);
     let seed = 100 + n % 9;
     said::inputs(digest_of(seed, 0, a), digest_of(seed, a, b));
 }
@@ -279,7 +285,7 @@ fn start(n: u64) {
     name(n, b" coded from:");
     say_made(n);
     name(n, b" buffers before:");
-    say_before(sizes::information(n), sizes::parity(n));
+    say_before(buffer_sizes::information(n), buffer_sizes::parity(n));
 }
 
 fn readings(n: u64) {
@@ -300,7 +306,7 @@ fn readings(n: u64) {
 // ---- numbers and lengths
 
 fn read_zeros(n: u64, m0: u64, capture: usize, info: usize, parity: usize) {
-    let zeros = sizes::large_space();
+    let zeros = buffer_sizes::large_space();
     let k = capture % 1412610;
     read(n, m0, &zeros[0..k], info, parity);
 }

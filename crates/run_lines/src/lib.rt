@@ -1,13 +1,13 @@
 // Writes the runs of a count to standard output, in the lines of document 01, "GMP places".
 ghost use Prim.Native.Nat.{_≤_};
-ghost use Rattle.gmp.specs.Places.{places};
+ghost use Rattle.sizes.specs.Sizes.{places};
 use gmp::Kind;
 use gmp::Run;
 use libc::STDOUT_FILENO;
 
 // The count and its runs; nothing where c is no count.
 pub fn print(c: u64) {
-    if gmp::PLACES < c {
+    if sizes::PLACES < c {
         return;
     }
     print_named(b"Cm ", c);
@@ -25,7 +25,7 @@ fn print_runs(c: u64)
     requires { ⌜ c ≤ places ⌝ }
 {
     let mut j = 1;
-    while j <= gmp::PLACES {
+    while j <= sizes::PLACES {
         let run = gmp::run(c, j);
         print_run(j, run);
         j = run.last + 1;

@@ -1,4 +1,2 @@
--- The laws of `sizes`.
-mod Zeros
-mod Stated
-pub mod Unique
+-- The equations between the sizes.
+pub mod Equations

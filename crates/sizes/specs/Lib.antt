@@ -1,2 +1,2 @@
--- The definitions that the contracts of `sizes` cite.
-pub mod Lengths
+-- The sizes of document 01.
+pub mod Sizes

@@ -1,79 +1,90 @@
-// The lengths of the buffers of a call, for any numbers at all, and spaces that have room for them.
-ghost use mathlib.Core.Path.{_≡_};
-ghost use lib.ListN.{length, replicate};
-ghost use Rattle.line.specs.Sizes.{infoLength, parityLength, captureLength};
-ghost use Rattle.gmp.specs.Places.{places, dataIn};
-ghost use Rattle.windows.specs.Windows.{groupBytes, windowBytes};
-ghost use Rattle.sizes.specs.Lengths.{Bytes, upTo};
+// The sizes of document 01 for the code, as `specs/Sizes.antt` names them. What follows from others is written as it follows:
+// `proofs/Equations.antt` says the same of the definitions.
 
-// A capture of eight super frames has 1,412,608 bytes, and no other buffer is longer. A space has one byte more, so that what is too long is seen.
-pub const LARGE_BYTES: usize = 8 * line::SUPER_CAPTURE_BYTES + line::FILLER_BYTES + 1;
+// The places of an envelope are 1 to PLACES.
+pub const PLACES: u64 = 10220;
 
-pub type Large = [u8; LARGE_BYTES];
+pub const BLOCK_BITS: usize = 257;
 
-// The parity of eight super frames has 81,920 bytes.
-pub const SMALL_BYTES: usize = 8 * line::SUPER_PARITY_BYTES + 1;
+// A place, and a data group, has four client blocks; two of them are whole bytes.
+pub const GROUP_BITS: usize = 4 * BLOCK_BITS;
 
-pub type Small = [u8; SMALL_BYTES];
+pub const PAIR_BYTES: usize = 2 * GROUP_BITS / 8;
 
-pub fn large_space() -> Large
-    ensures { λ r. ⌜ 1412609 ≡ length r ⌝ }
-    ensures { λ r. ⌜ r ≡ replicate 1412609 0 ⌝ }
-{
-    [0; LARGE_BYTES]
-}
+pub const CLIENT_BLOCKS: usize = 952;
 
-pub fn small_space() -> Small
-    ensures { λ r. ⌜ 81921 ≡ length r ⌝ }
-    ensures { λ r. ⌜ r ≡ replicate 81921 0 ⌝ }
-{
-    [0; SMALL_BYTES]
-}
+pub const INFO_BITS: usize = CLIENT_BLOCKS * BLOCK_BITS;
 
-// The bytes of information of n super frames; 0 where no capture has so many.
-pub fn information(n: u64) -> usize
-    ensures { λ r. ⌜ Bytes (infoLength 8) (upTo 8 infoLength n) r ⌝ }
-{
-    if 8 < n {
-        return 0;
-    }
-    line::SUPER_INFO_BYTES * (n as usize)
-}
+pub const INFO_BYTES: usize = INFO_BITS / 8;
 
-// The bytes of parity of n super frames.
-pub fn parity(n: u64) -> usize
-    ensures { λ r. ⌜ Bytes (parityLength 8) (upTo 8 parityLength n) r ⌝ }
-{
-    if 8 < n {
-        return 0;
-    }
-    line::SUPER_PARITY_BYTES * (n as usize)
-}
+pub const CRC_BITS: usize = 32;
 
-// The bytes of a capture of n super frames.
-pub fn capture(n: u64) -> usize
-    ensures { λ r. ⌜ Bytes (captureLength 8) (upTo 8 captureLength n) r ⌝ }
-{
-    if 8 < n {
-        return 0;
-    }
-    line::SUPER_CAPTURE_BYTES * (n as usize) + line::FILLER_BYTES
-}
+pub const MBAS_FROM: usize = INFO_BITS + CRC_BITS;
 
-// The bytes of a window of n places.
-pub fn window(n: u64) -> usize
-    ensures { λ r. ⌜ Bytes (windowBytes places) (upTo places windowBytes n) r ⌝ }
-{
-    if gmp::PLACES < n {
-        return 0;
-    }
-    windows::PAIR_BYTES * (n as usize) / 2
-}
+pub const MBAS_BITS: usize = 6;
 
-// The bytes of the groups in the window of n places from f on. Where the numbers are outside their sets it is 0, and mapping refuses them.
-pub fn groups(c: u64, f: u64, n: u64) -> usize
-    ensures { λ r. ⌜ Bytes (groupBytes places) (groupBytes (dataIn c f n)) r ⌝ }
-{
-    let d = gmp::data_in(c, f, n);
-    (windows::PAIR_BYTES * (d as usize) + 1) / 2
-}
+pub const PARITY_FROM: usize = MBAS_FROM + MBAS_BITS;
+
+pub const PARITY_BITS: usize = 16384;
+
+pub const PARITY_BYTES: usize = PARITY_BITS / 8;
+
+pub const FEC_BITS: usize = PARITY_FROM + PARITY_BITS;
+
+pub const FEC_BLOCKS: usize = 5;
+
+pub const PAD_FROM: usize = FEC_BLOCKS * FEC_BITS;
+
+pub const PAD_BITS: usize = 714;
+
+pub const SUPER_BITS: usize = PAD_FROM + PAD_BITS;
+
+pub const SUPER_BYTES: usize = SUPER_BITS / 8;
+
+pub const ELEMENT_BITS: usize = 119;
+
+pub const INFO_ELEMENTS: usize = INFO_BITS / ELEMENT_BITS;
+
+pub const FEC_ELEMENTS: usize = FEC_BITS / ELEMENT_BITS;
+
+pub const SUPER_ELEMENTS: usize = SUPER_BITS / ELEMENT_BITS;
+
+// The first element of a super frame's pad.
+pub const PAD_ELEMENT: usize = FEC_BLOCKS * FEC_ELEMENTS;
+
+pub const ROWS: usize = 16;
+
+pub const ROW_WAIT: usize = 32;
+
+// So many words the first row waits in the interleaver: as many more than elements a capture has.
+pub const LONGEST_WAIT: usize = ROW_WAIT * (ROWS - 1);
+
+pub const SUPER_CLIENT_BLOCKS: usize = FEC_BLOCKS * CLIENT_BLOCKS;
+
+pub const SUPER_INFO_BYTES: usize = FEC_BLOCKS * INFO_BYTES;
+
+pub const SUPER_PARITY_BYTES: usize = FEC_BLOCKS * PARITY_BYTES;
+
+pub const CHECK_BITS: usize = 9;
+
+pub const WORD_BITS: usize = ELEMENT_BITS + CHECK_BITS;
+
+pub const WORD_BYTES: usize = WORD_BITS / 8;
+
+// Eight words interleave.
+pub const GROUP_WORDS: usize = 8;
+
+pub const GROUP_BYTES: usize = GROUP_WORDS * WORD_BYTES;
+
+pub const MOST_FRAMES: usize = 8;
+
+// What a super frame adds to a capture, and what a capture has besides.
+pub const SUPER_CAPTURE_BYTES: usize = WORD_BYTES * SUPER_ELEMENTS;
+
+pub const FILLER_BYTES: usize = WORD_BYTES * LONGEST_WAIT;
+
+// A client block in whole bytes.
+pub const BLOCK_BYTES: usize = (BLOCK_BITS + 7) / 8;
+
+// The most words that an edit lists, which is the length of its list.
+pub const LIST_LENGTH: usize = 145;

@@ -65,10 +65,10 @@ fn read_into(n: u64, m0: u64, capture: &[u8], info: &mut [u8], parity: &mut [u8]
 
 // Into zeros.
 fn read(n: u64, m0: u64, capture: &[u8]) {
-    let mut info = sizes::large_space();
-    let mut parity = sizes::small_space();
-    let a = sizes::information(n);
-    let b = sizes::parity(n);
+    let mut info = buffer_sizes::large_space();
+    let mut parity = buffer_sizes::small_space();
+    let a = buffer_sizes::information(n);
+    let b = buffer_sizes::parity(n);
     read_into(n, m0, capture, &mut info[0..a], &mut parity[0..b]);
 }
 
@@ -87,10 +87,10 @@ fn code_from(
 }
 
 fn code(n: u64, m0: u64, g: Generator, capture: &mut [u8]) -> Generator {
-    let mut info = sizes::large_space();
-    let mut parity = sizes::small_space();
-    let a = sizes::information(n);
-    let b = sizes::parity(n);
+    let mut info = buffer_sizes::large_space();
+    let mut parity = buffer_sizes::small_space();
+    let a = buffer_sizes::information(n);
+    let b = buffer_sizes::parity(n);
     code_from(n, m0, g, capture, &mut info[0..a], &mut parity[0..b])
 }
 
@@ -112,8 +112,8 @@ fn case(n: u64, seed: u64, m0: u64, capture: &mut [u8]) {
 }
 
 fn sized(n: u64, seed: u64, m0: u64) {
-    let mut capture = sizes::large_space();
-    let k = sizes::capture(n);
+    let mut capture = buffer_sizes::large_space();
+    let k = buffer_sizes::capture(n);
     case(n, seed, m0, &mut capture[0..k]);
 }
 

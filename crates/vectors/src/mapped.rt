@@ -45,8 +45,8 @@ fn window(
 
 // At most 80 places are mapped.
 fn sized(c: u64, f: u64, n: u64, g: Generator) {
-    let d = sizes::groups(c, f, n) % 10282;
-    let k = sizes::window(n) % 10282;
+    let d = buffer_sizes::groups(c, f, n) % 10282;
+    let k = buffer_sizes::window(n) % 10282;
     let mut groups = [0u8; 10281];
     let mut space = [90u8; 10281];
     let mut back = [60u8; 10281];

@@ -30,7 +30,7 @@ fn stuff_run(c: u64, j: u64) -> u64 {
         said::number(b" ", j);
         said::number(b"-", r.last);
     }
-    if r.last >= gmp::PLACES {
+    if r.last >= sizes::PLACES {
         return 0;
     }
     r.last + 1

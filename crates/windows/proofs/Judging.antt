@@ -11,10 +11,11 @@ use Rattle.answer.specs.Numbers.{allDone, outsideSet, wrongLength, spareBit}
 use Rattle.answer.specs.Rows.{done, refused, answerOf, buffers, bufferPlace}
 use Rattle.answer.specs.declared.Answer.{Answer}
 use Rattle.answer.proofs.Table.{row-whole, row-buffers, inTurn, guard}
-use Rattle.gmp.specs.Places.{places, dataFrom, Stretch, dataIn}
+use Rattle.gmp.specs.Places.{dataFrom, Stretch, dataIn}
 use Rattle.gmp.proofs.Counts.{data-inside}
-use Rattle.windows.specs.Windows.{groupBytes, windowBytes, outsideWindow, Window, spareSet}
+use Rattle.windows.specs.Windows.{outsideWindow, Window, spareSet}
 use Rattle.windows.specs.Answers.{wrong, mapAnswer, unmapAnswer}
+use Rattle.sizes.specs.Sizes.{places, groupBytes, windowBytes}
 use Rattle.bits.proofs.Common.{or-left, or-right}
 
 -- ---- the numbers

@@ -9,7 +9,8 @@ use lib.Dec.{eqb}
 use Rattle.bits.specs.Bits.{num, bitAt}
 use Rattle.bits.proofs.Numbers.{num-front}
 use Rattle.bits.proofs.Packing.{bitOf-lt}
-use Rattle.windows.specs.Windows.{groupBits, spareSet}
+use Rattle.sizes.specs.Sizes.{groupBits}
+use Rattle.windows.specs.Windows.{spareSet}
 
 pub spare-even : (d : ℕ) (g : List ℕ) → d % 2 ≡ 0 → false ≡ spareSet d g
 unfolding spareSet

@@ -8,7 +8,8 @@ use Rattle.answer.specs.Numbers.{outsideSet, wrongLength, spareBit}
 use Rattle.answer.specs.Rows.{Row, answerOf, whole, buffers}
 use Rattle.answer.specs.declared.Answer.{Answer}
 use Rattle.gmp.specs.Places.{dataFrom}
-use Rattle.windows.specs.Windows.{groupBytes, windowBytes, outsideWindow, spareSet}
+use Rattle.sizes.specs.Sizes.{groupBytes, windowBytes}
+use Rattle.windows.specs.Windows.{outsideWindow, spareSet}
 
 -- a buffer's length is not the stated one
 abbrev pub wrong : ℕ → ℕ → Bool

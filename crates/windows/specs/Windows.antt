@@ -5,22 +5,7 @@ use mathlib.Core.Path.{_≡_}
 use mathlib.Core.List.{List}
 use lib.Dec.{ltb, eqb}
 use Rattle.bits.specs.Bits.{num, bitAt}
-use Rattle.gmp.specs.Places.{places}
-
--- a place has four blocks of 257 bits
-abbrev pub groupBits : ℕ
-groupBits = 1028
-
--- two places, or two groups, are so many bytes
-abbrev pub pairBytes : ℕ
-pairBytes = 257
-
--- the bytes of d groups, ceil(128.5·d), and of n places, 257·n/2
-abbrev pub groupBytes : ℕ → ℕ
-groupBytes d = (pairBytes * d + 1) / 2
-
-abbrev pub windowBytes : ℕ → ℕ
-windowBytes n = pairBytes * n / 2
+use Rattle.sizes.specs.Sizes.{places}
 
 -- "an odd first place f and an even number n ≥ 2 of places, ending at or before 10,220", and a count: one of these is not so
 abbrev pub outsideWindow : ℕ → ℕ → ℕ → Bool

@@ -1,17 +1,13 @@
 // What a payload window is, and what mapping and unmapping answer: document 01, "GMP places" and "Numbers handed back".
 ghost use mathlib.Core.Path.{_≡_};
 ghost use Prim.Native.Nat.{_≤_};
-ghost use Rattle.gmp.specs.Places.{places};
+ghost use Rattle.sizes.specs.Sizes.{places};
 ghost use Rattle.windows.specs.Windows.{outsideWindow, spareSet};
 ghost use Rattle.windows.specs.Answers.{mapAnswer, unmapAnswer};
 use answer::Answer;
-use gmp::PLACES;
-
-// A place, and a data group, has four blocks of 257 bits.
-pub const GROUP_BITS: usize = 1028;
-
-// Two of them are whole bytes.
-pub const PAIR_BYTES: usize = 257;
+use sizes::GROUP_BITS;
+use sizes::PAIR_BYTES;
+use sizes::PLACES;
 
 // What mapping answers: its buffers are the groups and the window.
 pub fn map_answer(c: u64, f: u64, n: u64, groups: &[u8], window: usize) -> Answer

@@ -12,20 +12,20 @@ pub fn code() {
     let Number::Is(m0) = files::number_at(3, b"M0") else {
         return;
     };
-    let mut info = sizes::large_space();
+    let mut info = buffer_sizes::large_space();
     let i = files::load(4, &mut info);
     if !i.fine {
         return;
     }
-    let mut parity = sizes::small_space();
+    let mut parity = buffer_sizes::small_space();
     let j = files::load(5, &mut parity);
     if !j.fine {
         return;
     }
-    let mut capture = sizes::large_space();
+    let mut capture = buffer_sizes::large_space();
     let a = i.bytes;
     let b = j.bytes;
-    let k = sizes::capture(n);
+    let k = buffer_sizes::capture(n);
     code_files(n, m0, &info[0..a], &parity[0..b], &mut capture[0..k]);
 }
 
@@ -33,8 +33,8 @@ fn code_files(n: u64, m0: u64, info: &[u8], parity: &[u8], capture: &mut [u8]) {
     let answer = capture::code(n, m0, info, parity, capture);
     if answer.number != 0 {
         refused(answer);
-        said::length(answer, b"INFO", info.len(), sizes::information(n));
-        said::length(answer, b"PARITY", parity.len(), sizes::parity(n));
+        said::length(answer, b"INFO", info.len(), buffer_sizes::information(n));
+        said::length(answer, b"PARITY", parity.len(), buffer_sizes::parity(n));
         return;
     }
     if files::save(6, capture) {
@@ -55,16 +55,16 @@ pub fn read() {
     let Number::Is(m0) = files::number_at(3, b"M0") else {
         return;
     };
-    let mut capture = sizes::large_space();
+    let mut capture = buffer_sizes::large_space();
     let k = files::load(4, &mut capture);
     if !k.fine {
         return;
     }
-    let mut info = sizes::large_space();
-    let mut parity = sizes::small_space();
+    let mut info = buffer_sizes::large_space();
+    let mut parity = buffer_sizes::small_space();
     let a = k.bytes;
-    let i = sizes::information(n);
-    let j = sizes::parity(n);
+    let i = buffer_sizes::information(n);
+    let j = buffer_sizes::parity(n);
     read_file(n, m0, &capture[0..a], &mut info[0..i], &mut parity[0..j]);
 }
 
@@ -72,7 +72,7 @@ fn read_file(n: u64, m0: u64, capture: &[u8], info: &mut [u8], parity: &mut [u8]
     let answer = capture::read(n, m0, capture, info, parity);
     if answer.number != 0 {
         refused(answer);
-        said::length(answer, b"CAPTURE", capture.len(), sizes::capture(n));
+        said::length(answer, b"CAPTURE", capture.len(), buffer_sizes::capture(n));
         return;
     }
     if files::save(5, info) && files::save(6, parity) {
@@ -93,12 +93,12 @@ pub fn edit() {
     if !i.fine {
         return;
     }
-    let mut parity = sizes::small_space();
+    let mut parity = buffer_sizes::small_space();
     let j = files::load(5, &mut parity);
     if !j.fine {
         return;
     }
-    let mut capture = sizes::large_space();
+    let mut capture = buffer_sizes::large_space();
     let k = files::load(6, &mut capture);
     if !k.fine {
         return;
@@ -117,7 +117,7 @@ fn edit_files(n: u64, block: u64, bits: &[u8], parity: &[u8], capture: &mut [u8]
         said::sets(answer, b"  N is 1 to 8 and BLOCK is 0 to 4760 N - 1\n");
         said::length(answer, b"BITS", bits.len(), 33);
         said::length(answer, b"PARITY", parity.len(), 2048);
-        said::length(answer, b"CAPTURE", capture.len(), sizes::capture(n));
+        said::length(answer, b"CAPTURE", capture.len(), buffer_sizes::capture(n));
         return;
     }
     if files::save(7, capture) {

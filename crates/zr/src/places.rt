@@ -16,7 +16,7 @@ pub fn convert(unmapping: bool) {
     let Number::Is(n) = files::number_at(4, b"N") else {
         return;
     };
-    let mut from = sizes::large_space();
+    let mut from = buffer_sizes::large_space();
     let loaded = files::load(5, &mut from);
     if !loaded.fine {
         return;
@@ -26,12 +26,12 @@ pub fn convert(unmapping: bool) {
 }
 
 fn convert_file(unmapping: bool, c: u64, f: u64, n: u64, from: &[u8]) {
-    let mut to = sizes::large_space();
+    let mut to = buffer_sizes::large_space();
     if unmapping {
-        let k = sizes::groups(c, f, n);
+        let k = buffer_sizes::groups(c, f, n);
         unmap(c, f, n, from, &mut to[0..k]);
     } else {
-        let k = sizes::window(n);
+        let k = buffer_sizes::window(n);
         map(c, f, n, from, &mut to[0..k]);
     }
 }
@@ -40,7 +40,12 @@ fn map(c: u64, f: u64, n: u64, groups: &[u8], window: &mut [u8]) {
     let answer = mapping::map(c, f, n, groups, window);
     if answer.number != 0 {
         refused(answer);
-        said::length(answer, b"GROUPS", groups.len(), sizes::groups(c, f, n));
+        said::length(
+            answer,
+            b"GROUPS",
+            groups.len(),
+            buffer_sizes::groups(c, f, n),
+        );
         return;
     }
     save(answer.count, window);
@@ -50,7 +55,7 @@ fn unmap(c: u64, f: u64, n: u64, window: &[u8], groups: &mut [u8]) {
     let answer = mapping::unmap(c, f, n, window, groups);
     if answer.number != 0 {
         refused(answer);
-        said::length(answer, b"WINDOW", window.len(), sizes::window(n));
+        said::length(answer, b"WINDOW", window.len(), buffer_sizes::window(n));
         return;
     }
     save(answer.count, groups);
@@ -75,7 +80,7 @@ pub fn runs() {
     let Number::Is(c) = files::number_at(2, b"C") else {
         return;
     };
-    if gmp::PLACES < c {
+    if sizes::PLACES < c {
         let answer = answer::refuse(answer::OUTSIDE_SET, 0);
         said::refused(answer);
         said::sets(answer, b"  C is 0 to 10220\n");

@@ -3,7 +3,7 @@ use Prim.Native.Nat.{_+_, _-_, _*_}
 use mathlib.Core.Path.{_∙_}
 use native.Mathlib.Omega.{arith}
 use denote.Ref.{now}
-use Rattle.line.specs.Sizes.{infoBytes}
+use Rattle.sizes.specs.Sizes.{infoBytes}
 use Rattle.coder.proofs.Plain.{block-part}
 use borrow.Author.Needs.{needs}
 use Rattle.coder.proofs.block_crc.Statement.{statement}

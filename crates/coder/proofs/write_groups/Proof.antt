@@ -4,7 +4,7 @@ use native.Mathlib.Omega.{arith}
 use lib.ListN.{getD}
 use denote.Ref.{now}
 use Rattle.bits.proofs.Lists.{Filled, filled-none, filled-block, filled-all}
-use Rattle.line.specs.Sizes.{captureLength, words}
+use Rattle.sizes.specs.Sizes.{captureLength, words}
 use Rattle.line.specs.Fec.{fecBit}
 use Rattle.line.specs.Words.{wordAt, symbolAt, laid, wordsOf}
 use Rattle.coder.specs.Code.{captureOf}

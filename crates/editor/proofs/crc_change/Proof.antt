@@ -8,7 +8,7 @@ use denote.Ref.{now}
 use Rattle.crc.specs.Crc.{step, remFrom, remOf, shiftN}
 use Rattle.crc.proofs.Linear.{rem-more}
 use Rattle.line.specs.Words.{wordIn, fecIn}
-use Rattle.line.specs.Sizes.{blockBits, clientBlocks}
+use Rattle.sizes.specs.Sizes.{blockBits, clientBlocks}
 use Rattle.editing.specs.Edit.{fecOf, blockFrom, change}
 use Rattle.editing.proofs.Changing.{change-bits, crc-changes}
 use borrow.Author.Needs.{needs}

@@ -7,7 +7,7 @@ use borrow.Author.Count.{below-more}
 use denote.Ref.{now}
 use Rattle.bits.proofs.Common.{by-bound}
 use Rattle.bits.proofs.LoopLaws.{first-is, first-none}
-use Rattle.line.specs.Sizes.{words}
+use Rattle.sizes.specs.Sizes.{words}
 use Rattle.editing.specs.Edit.{fails}
 use Rattle.editing.specs.Parts.{stretchFrom, stretchTo}
 use Rattle.editing.proofs.Listing.{fails-outside, stretch-in}

@@ -2,7 +2,7 @@
 use Prim.Native.Nat.{_+_, _*_, _%_}
 use mathlib.Core.Path.{ap, _∙_}
 use denote.Ref.{now}
-use Rattle.line.specs.Sizes.{elementBits, fecElements, superElements}
+use Rattle.sizes.specs.Sizes.{elementBits, fecElements, superElements}
 use Rattle.editing.specs.Edit.{elementLocal}
 use Rattle.editing.specs.Parts.{newBit, newElement}
 use borrow.Author.Needs.{needs}

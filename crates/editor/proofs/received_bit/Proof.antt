@@ -6,7 +6,7 @@ use denote.Ref.{now}
 use Rattle.bits.specs.Bits.{bitAt}
 use Rattle.line.specs.Words.{wordIn}
 use Rattle.line.proofs.SlotLaws.{slot-lt}
-use Rattle.line.specs.Sizes.{elementBits, fecBits, superElements}
+use Rattle.sizes.specs.Sizes.{elementBits, fecBits, superElements}
 use Rattle.editing.proofs.Changing.{sequence-bit, received}
 use borrow.Author.Needs.{needs}
 use Rattle.editor.proofs.received_bit.Statement.{statement}

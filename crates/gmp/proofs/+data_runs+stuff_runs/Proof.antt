@@ -6,7 +6,7 @@ use Prim.Native.Nat.{ℕ, _+_, _-_, _<_}
 use native.Mathlib.Omega.{arith}
 use borrow.Fn.Kinds.{In}
 use borrow.Fn.PlainCycle.{Measures, is, falls, and}
-use Rattle.gmp.specs.Places.{places}
+use Rattle.sizes.specs.Sizes.{places}
 use Rattle.gmp.proofs.Stretches.{runs-few}
 use Rattle.gmp.proofs.Ends.{ended, Handed, handed}
 use Rattle.gmp.proofs.data_runs.Reads as data-runs

@@ -3,7 +3,7 @@ use Prim.Native.Nat.{_+_, _-_}
 use borrow.Author.Tests.{lt-ltb, le-ltb}
 use native.Mathlib.Omega.{arith}
 use borrow.Author.Needs.{needs}
-use Rattle.gmp.specs.Places.{places}
+use Rattle.sizes.specs.Sizes.{places}
 use Rattle.gmp.proofs.Counts.{ends-late}
 use Rattle.gmp.proofs.outside_stretch.Statement.{statement}
 use Rattle.gmp.proofs.outside_stretch.Tie as tie

@@ -5,7 +5,7 @@ use native.Mathlib.Omega.{arith}
 use lib.ListN.{length, take, drop, length-take, length-drop}
 use Rattle.bits.specs.Bits.{byteOf}
 use Rattle.bits.proofs.Lists.{Filled, filled-none, filled-to, filled-all}
-use Rattle.windows.specs.Windows.{pairBytes}
+use Rattle.sizes.specs.Sizes.{pairBytes}
 use Rattle.mapping.specs.Groups.{groupsBit}
 use Rattle.windows.proofs.Judging.{data-window}
 use borrow.Author.Needs.{needs}

@@ -4,7 +4,7 @@ use native.Mathlib.Omega.{arith}
 use lib.ListN.{length-take, length-drop}
 use Rattle.bits.specs.Bits.{byteOf}
 use Rattle.bits.proofs.Lists.{Filled, filled-none, filled-to, filled-all}
-use Rattle.windows.specs.Windows.{pairBytes}
+use Rattle.sizes.specs.Sizes.{pairBytes}
 use Rattle.mapping.specs.Groups.{windowBit}
 use Rattle.mapping.proofs.Pairs.{filled-part}
 use Rattle.mapping.proofs.fill_window.Statement.{statement}

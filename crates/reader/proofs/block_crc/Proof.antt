@@ -4,7 +4,7 @@ use mathlib.Core.Path.{_∙_}
 use denote.Ref.{now}
 use Rattle.bits.specs.Bits.{bitAt, from}
 use Rattle.bits.proofs.Packing.{bitOf-lt}
-use Rattle.line.specs.Sizes.{fecBits, infoBytes}
+use Rattle.sizes.specs.Sizes.{fecBits, infoBytes}
 use Rattle.reading.proofs.Pieces.{crc-packed}
 use borrow.Author.Needs.{needs}
 use Rattle.reader.proofs.block_crc.Statement.{statement}

@@ -4,7 +4,7 @@ use mathlib.Core.Path.{refl, ap₂, _≡_, ap, _∙_}
 use lib.ListN.{take, drop, length}
 use Rattle.bits.proofs.Packing.{length-packs}
 use Rattle.scrambler.specs.Scrambler.{o}
-use Rattle.line.specs.Sizes.{superBytes, superElements}
+use Rattle.sizes.specs.Sizes.{superBytes, superElements}
 use Rattle.reading.specs.Parts.{followed, plainByte, startOf}
 use Rattle.reading.proofs.Places.{element-byte, part-long, filled-part}
 use native.Mathlib.Omega.{arith}

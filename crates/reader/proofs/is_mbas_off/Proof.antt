@@ -4,7 +4,7 @@ use denote.Ref.{now}
 use Rattle.bits.specs.Bits.{bitAt}
 use Rattle.bits.proofs.Numbers.{num-front}
 use Rattle.bits.proofs.Packing.{bitOf-lt}
-use Rattle.line.specs.Sizes.{fecBits, mbasFrom}
+use Rattle.sizes.specs.Sizes.{fecBits, mbasFrom}
 use Rattle.reading.specs.Parts.{mbasOff}
 use borrow.Author.Needs.{needs}
 use Rattle.reader.proofs.is_mbas_off.Statement.{statement}

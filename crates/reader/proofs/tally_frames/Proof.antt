@@ -5,7 +5,7 @@ use native.Mathlib.Omega.{arith}
 use denote.Ref.{now}
 use lib.ListN.{length}
 use borrow.Author.Needs.{needs}
-use Rattle.line.specs.Sizes.{superBytes}
+use Rattle.sizes.specs.Sizes.{superBytes}
 use Rattle.reading.specs.Parts.{framesTo}
 use Rattle.reading.proofs.Blocks.{frames-none}
 use Rattle.reader.proofs.tally_frames.Statement.{statement}

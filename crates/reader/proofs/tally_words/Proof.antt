@@ -4,7 +4,7 @@ use mathlib.Core.Path.{_≡_, _∙_, ap}
 use denote.Ref.{now}
 use native.Mathlib.Omega.{arith}
 use borrow.Author.Needs.{needs}
-use Rattle.line.specs.Sizes.{longestWait, superElements}
+use Rattle.sizes.specs.Sizes.{longestWait, superElements}
 use Rattle.reading.specs.Parts.{wordsTo}
 use Rattle.reading.proofs.Searching.{words-none}
 use Rattle.reader.proofs.tally_words.Statement.{statement}

@@ -1,7 +1,7 @@
 -- `reader::write_blocks` meets its contract: a block a turn. Assumes nothing.
 use lib.ListN.{length, take, drop}
 use Rattle.bits.specs.Bits.{bitAt, from, byteOf}
-use Rattle.line.specs.Sizes.{fecBits, infoBytes, parityBytes, parityFrom, superInfoBytes, superParityBytes}
+use Rattle.sizes.specs.Sizes.{fecBits, infoBytes, parityBytes, parityFrom, superInfoBytes, superParityBytes}
 use Rattle.reading.proofs.Places.{info-byte, parity-byte, part-long, filled-part}
 use Prim.Native.Nat.{_+_, _-_, _*_, _≤_}
 use native.Mathlib.Omega.{arith}

@@ -8,7 +8,7 @@ use lib.ListN.{length}
 use borrow.Author.Needs.{needs}
 use Rattle.bits.specs.Bits.{byteOf}
 use Rattle.bits.proofs.Lists.{Filled, filled-none, filled-all}
-use Rattle.line.specs.Sizes.{superBytes, superInfoBytes, superParityBytes}
+use Rattle.sizes.specs.Sizes.{superBytes, superInfoBytes, superParityBytes}
 use Rattle.line.specs.Frames.{infoOf, parityOf}
 use Rattle.line.specs.Words.{fecIn}
 use Rattle.reading.specs.Read.{repaired}

@@ -6,7 +6,7 @@ use native.Mathlib.Omega.{arith}
 use borrow.Author.Tests.{eq-eqb, ne-eqb, not-false}
 use Rattle.line.specs.Captures.{superAllowed}
 use Rattle.line.specs.Fec.{mbasAllowed}
-use Rattle.line.specs.Sizes.{fillerBytes, superCaptureBytes, superInfoBytes, superParityBytes}
+use Rattle.sizes.specs.Sizes.{fillerBytes, superCaptureBytes, superInfoBytes, superParityBytes}
 use Rattle.reading.specs.Parts.{judged}
 use Rattle.reading.proofs.Judging.{few-of}
 use borrow.Author.Needs.{needs}

@@ -2,7 +2,7 @@
 use borrow.Author.Tests.{lt-ltb, le-ltb, eq-eqb, ne-eqb}
 use Prim.Native.Nat.{_+_, _-_}
 use native.Mathlib.Omega.{arith}
-use Rattle.gmp.specs.Places.{places}
+use Rattle.sizes.specs.Sizes.{places}
 use Rattle.gmp.proofs.Counts.{ends-late}
 use borrow.Author.Needs.{needs}
 use Rattle.windows.proofs.outside_window.Statement.{statement}

@@ -1,13 +1,13 @@
 -- Each public contract has one answer: two results that meet it are the same. `Post` is the contract's own `ensures`, so a weaker contract would not
 -- pass here. Assumes nothing.
 use mathlib.Core.Path.{_≡_, sym, _∙_}
-use Rattle.sizes.proofs.large_space.Reads as large-space
-use Rattle.sizes.proofs.small_space.Reads as small-space
-use Rattle.sizes.proofs.information.Reads as information
-use Rattle.sizes.proofs.parity.Reads as parity
-use Rattle.sizes.proofs.capture.Reads as capture
-use Rattle.sizes.proofs.window.Reads as window
-use Rattle.sizes.proofs.groups.Reads as groups
+use Rattle.buffer_sizes.proofs.large_space.Reads as large-space
+use Rattle.buffer_sizes.proofs.small_space.Reads as small-space
+use Rattle.buffer_sizes.proofs.information.Reads as information
+use Rattle.buffer_sizes.proofs.parity.Reads as parity
+use Rattle.buffer_sizes.proofs.capture.Reads as capture
+use Rattle.buffer_sizes.proofs.window.Reads as window
+use Rattle.buffer_sizes.proofs.groups.Reads as groups
 
 pub one-large-space : (κs : _) (a : _) (x y : _) (s t : _) → large-space.Post κs a x s → large-space.Post κs a y t → x ≡ y
 one-large-space κs a x y s t p q = p .1 ∙ sym (q .1)

@@ -1,10 +1,10 @@
--- `sizes::information` meets its contract: the laws `beyond` and `within`. Assumes nothing.
+-- `buffer_sizes::information` meets its contract: the laws `beyond` and `within`. Assumes nothing.
 use native.Mathlib.Omega.{arith}
 use borrow.Author.Needs.{needs}
-use Rattle.line.specs.Sizes.{infoLength}
-use Rattle.sizes.proofs.Stated.{beyond, within}
-use Rattle.sizes.proofs.information.Statement.{statement}
-use Rattle.sizes.proofs.information.Tie as tie
+use Rattle.sizes.specs.Sizes.{infoLength}
+use Rattle.buffer_sizes.proofs.Stated.{beyond, within}
+use Rattle.buffer_sizes.proofs.information.Statement.{statement}
+use Rattle.buffer_sizes.proofs.information.Tie as tie
 
 returns : tie.Need-returns
 returns c = beyond 8 infoLength (c .before .args .n) (c .if1 .taken)

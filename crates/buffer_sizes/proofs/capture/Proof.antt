@@ -1,10 +1,10 @@
--- `sizes::capture` meets its contract: the laws `beyond` and `within`. Assumes nothing.
+-- `buffer_sizes::capture` meets its contract: the laws `beyond` and `within`. Assumes nothing.
 use native.Mathlib.Omega.{arith}
 use borrow.Author.Needs.{needs}
-use Rattle.line.specs.Sizes.{captureLength}
-use Rattle.sizes.proofs.Stated.{beyond, within}
-use Rattle.sizes.proofs.capture.Statement.{statement}
-use Rattle.sizes.proofs.capture.Tie as tie
+use Rattle.sizes.specs.Sizes.{captureLength}
+use Rattle.buffer_sizes.proofs.Stated.{beyond, within}
+use Rattle.buffer_sizes.proofs.capture.Statement.{statement}
+use Rattle.buffer_sizes.proofs.capture.Tie as tie
 
 returns : tie.Need-returns
 returns c = beyond 8 captureLength (c .before .args .n) (c .if1 .taken)

@@ -1,5 +1,16 @@
--- The sizes of document 01, each named once. Assumes nothing: these are definitions.
-use Prim.Native.Nat.{ℕ, _+_, _*_}
+-- The sizes of document 01, each named once; `sizes` of proofs/Equations.antt says how they hang together. Assumes nothing: these are definitions.
+use Prim.Native.Nat.{ℕ, _+_, _*_, _/_}
+
+-- ---- "GMP places": the places of an envelope, the bits of one, and the bytes of two of them, which are whole
+
+abbrev pub places : ℕ
+places = 10220
+
+abbrev pub groupBits : ℕ
+groupBits = 1028
+
+abbrev pub pairBytes : ℕ
+pairBytes = 257
 
 -- ---- "One FEC block, 261,086 bits"
 
@@ -56,7 +67,7 @@ superBits = 1306144
 abbrev pub superBytes : ℕ
 superBytes = 163268
 
--- elements: of a super frame, of an FEC block, of its information
+-- elements: the bits of one; how many a super frame has, an FEC block, its information
 abbrev pub elementBits : ℕ
 elementBits = 119
 
@@ -69,6 +80,17 @@ fecElements = 2194
 abbrev pub infoElements : ℕ
 infoElements = 2056
 
+-- the rows of the interleaver, the words by which a row waits longer than the next, and those that the first row waits: as many more than
+-- elements a capture has
+abbrev pub rows : ℕ
+rows = 16
+
+abbrev pub rowWait : ℕ
+rowWait = 32
+
+abbrev pub longestWait : ℕ
+longestWait = 480
+
 -- its client blocks, and the bytes of its information and of its parity
 abbrev pub superBlocks : ℕ
 superBlocks = 4760
@@ -79,18 +101,32 @@ superInfoBytes = 152915
 abbrev pub superParityBytes : ℕ
 superParityBytes = 10240
 
--- ---- "Captures": what a super frame adds to one, in bytes; the words that the first row waits, which a capture has more than elements; their bytes
+-- ---- "Code words": the bits of one, of which so many are check bits; its bytes; how many words interleave
+
+abbrev pub wordBits : ℕ
+wordBits = 128
+
+abbrev pub checkBits : ℕ
+checkBits = 9
+
+abbrev pub wordBytes : ℕ
+wordBytes = 16
+
+abbrev pub groupWords : ℕ
+groupWords = 8
+
+-- ---- "Captures": the most super frames of one; what a super frame adds to one, in bytes, and what it has besides
+
+abbrev pub mostFrames : ℕ
+mostFrames = 8
 
 abbrev pub superCaptureBytes : ℕ
 superCaptureBytes = 175616
 
-abbrev pub longestWait : ℕ
-longestWait = 480
-
 abbrev pub fillerBytes : ℕ
 fillerBytes = 7680
 
--- lengths for N super frames, in bytes; words
+-- lengths for N super frames, in bytes; words; client blocks
 
 abbrev pub infoLength : ℕ → ℕ
 infoLength N = superInfoBytes * N
@@ -103,3 +139,21 @@ captureLength N = superCaptureBytes * N + fillerBytes
 
 abbrev pub words : ℕ → ℕ
 words N = superElements * N + longestWait
+
+abbrev pub blocksOf : ℕ → ℕ
+blocksOf N = superBlocks * N
+
+-- an edit: the bytes of a client block, and the length of the list
+abbrev pub blockBytes : ℕ
+blockBytes = 33
+
+abbrev pub listLength : ℕ
+listLength = 145
+
+-- a window: the bytes of d groups, ceil(128.5·d), and of n places, 257·n/2
+
+abbrev pub groupBytes : ℕ → ℕ
+groupBytes d = (pairBytes * d + 1) / 2
+
+abbrev pub windowBytes : ℕ → ℕ
+windowBytes n = pairBytes * n / 2

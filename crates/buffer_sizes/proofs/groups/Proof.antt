@@ -1,10 +1,10 @@
--- `sizes::groups` meets its contract: the number of groups is the one counted, and no more than there are places. Assumes nothing.
+-- `buffer_sizes::groups` meets its contract: the number of groups is the one counted, and no more than there are places. Assumes nothing.
 use mathlib.Core.Path.{ap}
 use native.Mathlib.Omega.{arith}
 use borrow.Author.Needs.{needs}
-use Rattle.windows.specs.Windows.{groupBytes}
-use Rattle.sizes.proofs.groups.Statement.{statement}
-use Rattle.sizes.proofs.groups.Tie as tie
+use Rattle.sizes.specs.Sizes.{groupBytes}
+use Rattle.buffer_sizes.proofs.groups.Statement.{statement}
+use Rattle.buffer_sizes.proofs.groups.Tie as tie
 
 data-in-requires : tie.Need-data-in-requires
 data-in-requires c κs = search needs

@@ -1,11 +1,10 @@
--- `sizes::window` meets its contract: the laws `beyond` and `within`. Assumes nothing.
+-- `buffer_sizes::window` meets its contract: the laws `beyond` and `within`. Assumes nothing.
 use native.Mathlib.Omega.{arith}
 use borrow.Author.Needs.{needs}
-use Rattle.gmp.specs.Places.{places}
-use Rattle.windows.specs.Windows.{windowBytes}
-use Rattle.sizes.proofs.Stated.{beyond, within}
-use Rattle.sizes.proofs.window.Statement.{statement}
-use Rattle.sizes.proofs.window.Tie as tie
+use Rattle.sizes.specs.Sizes.{places, windowBytes}
+use Rattle.buffer_sizes.proofs.Stated.{beyond, within}
+use Rattle.buffer_sizes.proofs.window.Statement.{statement}
+use Rattle.buffer_sizes.proofs.window.Tie as tie
 
 returns : tie.Need-returns
 returns c = beyond places windowBytes (c .before .args .n) (c .if1 .taken)

@@ -2,7 +2,7 @@
 use Prim.Native.Nat.{ℕ, _<_, _≤_}
 use native.Mathlib.Omega.{arith}
 use borrow.Author.Tests.{lt-ltb, le-ltb}
-use Rattle.sizes.specs.Lengths.{Bytes, upTo}
+use Rattle.buffer_sizes.specs.Lengths.{Bytes, upTo}
 
 module _ (most : ℕ) (stated : ℕ → ℕ) (n : ℕ) where
   pub beyond : most < n → Bytes (stated most) (upTo most stated n) 0

@@ -1,10 +1,10 @@
--- `sizes::parity` meets its contract: the laws `beyond` and `within`. Assumes nothing.
+-- `buffer_sizes::parity` meets its contract: the laws `beyond` and `within`. Assumes nothing.
 use native.Mathlib.Omega.{arith}
 use borrow.Author.Needs.{needs}
-use Rattle.line.specs.Sizes.{parityLength}
-use Rattle.sizes.proofs.Stated.{beyond, within}
-use Rattle.sizes.proofs.parity.Statement.{statement}
-use Rattle.sizes.proofs.parity.Tie as tie
+use Rattle.sizes.specs.Sizes.{parityLength}
+use Rattle.buffer_sizes.proofs.Stated.{beyond, within}
+use Rattle.buffer_sizes.proofs.parity.Statement.{statement}
+use Rattle.buffer_sizes.proofs.parity.Tie as tie
 
 returns : tie.Need-returns
 returns c = beyond 8 parityLength (c .before .args .n) (c .if1 .taken)

@@ -1,0 +1,4 @@
+-- The laws of `buffer_sizes`.
+mod Zeros
+mod Stated
+pub mod Unique
