@@ -20,7 +20,7 @@ use Rattle.answer.proofs.Meets.{meets-done, meets-refused}
 use Rattle.sizes.specs.Sizes.{parityBytes, captureLength, words, blocksOf, blockBytes, listLength}
 use Rattle.line.specs.Captures.{superAllowed, wrong}
 use Rattle.editing.specs.Edit.{listed, spareSet, fails, editRows, editAnswer, editLeaves}
-use Rattle.editing.specs.Parts.{judged, Accepted, Passing}
+use Rattle.editing.specs.Steps.{judged, Accepted, Passing}
 use Rattle.editing.proofs.Passes.{passing-capture, passing-list}
 
 -- ---- the seven spare bits are the low seven of the last byte

@@ -18,7 +18,7 @@ use Rattle.line.specs.Slots.{slotOf}
 use Rattle.line.specs.Words.{symbolPlace, wordIn, elementFrom, superIn, fecIn}
 use Rattle.line.proofs.WordLaws.{word-symbol}
 use Rattle.editing.specs.Edit.{blockFrom, inBlock, replaced, change, crcChange, elementFec, elementLocal}
-use Rattle.editing.specs.Parts.{onePeriod}
+use Rattle.editing.specs.Steps.{onePeriod}
 use Rattle.editing.proofs.Touching.{block-in, block-before, block-past}
 
 -- ---- what is read

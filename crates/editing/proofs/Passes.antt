@@ -21,7 +21,7 @@ use Rattle.line.specs.Slots.{slotBit}
 use Rattle.line.specs.Words.{symbolPlace, wordAt, symbolAt, laid, symbolOf, wordIn, wordsOf, fecIn}
 use Rattle.line.proofs.WordLaws.{word-at, symbol-at, place-lt, length-laid, length-word, word-laid, laid-ext, laid-words}
 use Rattle.editing.specs.Edit.{fecOf, crcChange, editedFec, listed, picked, listOf, editedWord, editedCapture}
-use Rattle.editing.specs.Parts.{remade, putSymbol, putWord, mixed, listing, Passing, Turned}
+use Rattle.editing.specs.Steps.{remade, putSymbol, putWord, mixed, listing, Passing, Turned}
 use Rattle.editing.proofs.Picking.{length-picked, picked-no, picked-set, count-yes, count-no}
 use Rattle.editing.proofs.Listing.{listed-few}
 use Rattle.editing.proofs.Remaking.{word-made}

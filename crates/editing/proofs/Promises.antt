@@ -17,7 +17,7 @@ use Rattle.line.specs.Words.{wordAt, symbolAt, wordIn, wordsOf, fecIn}
 use Rattle.line.proofs.SlotLaws.{element-slot, slot-lt, slot-once, holds-slot}
 use Rattle.line.proofs.WordLaws.{word-laid, word-lt, word-symbol, symbol-lt, place-back}
 use Rattle.editing.specs.Edit.{blockFrom, editedFec, elementLocal, touches, listed, listOf, editedWord, editedCapture, editRows, editAnswer}
-use Rattle.editing.specs.Parts.{firstElement}
+use Rattle.editing.specs.Steps.{firstElement}
 use Rattle.editing.proofs.Touching.{element-tail, element-block, touches-some}
 use Rattle.editing.proofs.Picking.{length-picked, picked-entry, picked-rises, picked-room, picked-has, count-few, count-many}
 use Rattle.editing.proofs.Listing.{own, own-in, own-element, own-fec, own-tail, own-block, slotNo, listedCount, listed-slot, listed-count-ge, listed-count-le, holding-listed}

@@ -14,7 +14,7 @@ ghost use Rattle.sizes.specs.Sizes.{blockBits, fecBits, fecBlocks, elementBits,
 ghost use Rattle.line.specs.Slots.{elementIn};
 ghost use Rattle.line.specs.Words.{symbolPlace, wordIn, fecIn};
 ghost use Rattle.editing.specs.Edit.{fecOf, blockFrom, change, crcChange, elementLocal, touches, listed, fails, spareSet, editAnswer, editLeaves};
-ghost use Rattle.editing.specs.Parts.{judged, Accepted, onePeriod, firstElement, stretchFrom, stretchTo, newInfoBit, newBit, newElement, parityElement, remade, putWord, Lent, Passing, Turned};
+ghost use Rattle.editing.specs.Steps.{judged, Accepted, onePeriod, firstElement, stretchFrom, stretchTo, newInfoBit, newBit, newElement, parityElement, remade, putWord, Lent, Passing, Turned};
 
 // One period of the scrambler's sequence, and a word's bits more, so that a word can be cut out anywhere.
 const PERIOD_BYTES: usize = 8208;

@@ -22,7 +22,7 @@ ghost use Rattle.line.specs.Frames.{infoOf, parityOf};
 ghost use Rattle.line.specs.Slots.{slotOf, holds};
 ghost use Rattle.line.specs.Words.{wordIn, fecIn};
 ghost use Rattle.reading.specs.Read.{repaired, allZero, readAnswer, readLeaves};
-ghost use Rattle.reading.specs.Parts.{Accepted, OneIf, Tables, sequence, soughtOf, wordsTo, frameOf, followed, plainByte, mbasOff, crcOff, padOff, blockTaken, framesTo, infoIn, parityIn, lateAnswer, lateLeaves};
+ghost use Rattle.reading.specs.Steps.{Accepted, OneIf, Tables, sequence, soughtOf, wordsTo, frameOf, followed, plainByte, mbasOff, crcOff, padOff, blockTaken, framesTo, infoIn, parityIn, lateAnswer, lateLeaves};
 
 // The pad in whole bytes.
 const PAD_BYTES: usize = (sizes::PAD_BITS + 7) / 8;

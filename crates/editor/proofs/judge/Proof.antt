@@ -3,7 +3,7 @@ use mathlib.Core.Path.{ap, _∙_}
 use borrow.Author.Tests.{lt-ltb, le-ltb, le-leb, lt-leb, eq-eqb, ne-eqb}
 use Rattle.answer.specs.Numbers.{wrongLength}
 use Rattle.answer.specs.Rows.{refused}
-use Rattle.editing.specs.Parts.{judged}
+use Rattle.editing.specs.Steps.{judged}
 use borrow.Author.Needs.{needs}
 use Rattle.editor.proofs.judge.Statement.{statement}
 use Rattle.editor.proofs.judge.Tie as tie

@@ -4,7 +4,7 @@ use mathlib.Core.Path.{_≡_, refl, ap}
 use lib.ListN.{length, length-set, getD, set}
 use native.Mathlib.Omega.{arith}
 use Rattle.bits.proofs.LoopLaws.{Folded, folded-none, folded-more, folded-all}
-use Rattle.editing.specs.Parts.{putSymbol, putWord}
+use Rattle.editing.specs.Steps.{putSymbol, putWord}
 use Rattle.editor.proofs.put_word.Statement.{statement}
 use Rattle.editor.proofs.put_word.Tie as tie
 
