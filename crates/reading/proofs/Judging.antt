@@ -18,7 +18,7 @@ use Rattle.sizes.specs.Sizes.{words}
 use Rattle.line.specs.Frames.{infoOf, parityOf}
 use Rattle.line.specs.Words.{fecIn}
 use Rattle.line.proofs.CaptureLaws.{frames-in}
-use Rattle.reading.specs.Read.{repaired, isSeen, earlyRows, lateRows, readRows, readAnswer, readLeaves}
+use Rattle.reading.specs.Read.{repaired, isSeen, readEarlyRows, readLateRows, readRows, readAnswer, readLeaves}
 use Rattle.reading.specs.Steps.{Accepted, wordsTo, framesTo, verdictOf, lateAnswer, lateLeaves}
 use Rattle.reading.specs.declared.WordTally.{WordTally}
 use Rattle.reading.specs.declared.BlockTally.{BlockTally}
@@ -27,13 +27,13 @@ use Rattle.reading.specs.declared.BlockTally.{BlockTally}
 abbrev given : ℕ → List ℕ → List ℕ × List ℕ
 given N cap = (infoOf N (fecIn (repaired cap)), parityOf N (fecIn (repaired cap)))
 
-early-rise : (N m0 cap info par : ℕ) → rising 0 (earlyRows N m0 cap info par) ≡ true
-unfolding rising earlyRows rowNumber
+early-rise : (N m0 cap info par : ℕ) → rising 0 (readEarlyRows N m0 cap info par) ≡ true
+unfolding rising readEarlyRows rowNumber
 early-rise N m0 cap info par = refl
 
 -- the two tallies decide as the later rows do
-tallied : (N m0 : ℕ) (cap : List ℕ) → answerOf (lateRows N m0 cap) (count (isSeen cap) (words N)) ≡ lateAnswer N m0 cap
-unfolding lateRows answerOf firstOf rowNumber placesOf holdsAt verdictOf
+tallied : (N m0 : ℕ) (cap : List ℕ) → answerOf (readLateRows N m0 cap) (count (isSeen cap) (words N)) ≡ lateAnswer N m0 cap
+unfolding readLateRows answerOf firstOf rowNumber placesOf holdsAt verdictOf
 tallied N m0 cap = refl
 
 module _ (N m0 : ℕ) (cap info par : List ℕ) where
@@ -41,13 +41,13 @@ module _ (N m0 : ℕ) (cap info par : List ℕ) where
   rows = readRows N m0 cap info par
 
   abbrev early : List Row
-  early = earlyRows N m0 (length cap) (length info) (length par)
+  early = readEarlyRows N m0 (length cap) (length info) (length par)
 
   abbrev seen : ℕ
   seen = count (isSeen cap) (words N)
 
   read-rise : rising 0 rows ≡ true
-  unfolding rising earlyRows lateRows rowNumber
+  unfolding rising readEarlyRows readLateRows rowNumber
   read-rise = refl
 
   -- DEMAND 1 of reading: the answer, and both buffers
@@ -67,7 +67,7 @@ module _ (N m0 : ℕ) (cap info par : List ℕ) where
     shown z = passed early (done 0) (early-rise N m0 (length cap) (length info) (length par)) (e ∙ in-turn early 0) z
 
     pub accepted : r .number ≡ allDone → Accepted N cap info par
-    unfolding earlyRows Passed RowPassed NoFault
+    unfolding readEarlyRows Passed RowPassed NoFault
     accepted z =
         let p = shown z in
         let f = frames-in N m0 (p .0) in
@@ -82,7 +82,7 @@ module _ (N m0 : ℕ) (cap info par : List ℕ) where
 
     late : r .number ≡ allDone → readAnswer N m0 cap info par ≡ lateAnswer N m0 cap
     unfolding readAnswer
-    late z = early-passed early (lateRows N m0 cap) seen (shown z) ∙ tallied N m0 cap
+    late z = early-passed early (readLateRows N m0 cap) seen (shown z) ∙ tallied N m0 cap
 
     -- the rest of the table decides
     pub read-late : {x : Answer} {out : List ℕ × List ℕ} → r .number ≡ allDone → Outcome (lateAnswer N m0 cap) (lateLeaves N m0 cap info par) x out
@@ -96,7 +96,7 @@ module _ (N m0 : ℕ) (cap info par : List ℕ) where
     -- refused by 1 or 2: nothing is written
     pub read-refused : (r .number ≡ allDone → ⊥) → Outcome (readAnswer N m0 cap info par) (readLeaves N m0 cap info par) r (info, par)
     unfolding readAnswer readLeaves
-    read-refused h = meets-refused (given N cap) (early-refused early (lateRows N m0 cap) 0 seen (e ∙ in-turn early 0) h) h
+    read-refused h = meets-refused (given N cap) (early-refused early (readLateRows N m0 cap) 0 seen (e ∙ in-turn early 0) h) h
 
 -- ---- what the code has found after the two passes
 

@@ -59,15 +59,15 @@ isSeen cap w = not (eqb (checksOf (wordIn cap w)) 0)
 -- ---- the answer
 
 -- numbers 1 and 2, from the numbers and the buffers' lengths; buffers as document 01 names them, inputs first
-unfoldable pub earlyRows : ℕ → ℕ → ℕ → ℕ → ℕ → List Row
-earlyRows N m0 cap info par =
+unfoldable pub readEarlyRows : ℕ → ℕ → ℕ → ℕ → ℕ → List Row
+readEarlyRows N m0 cap info par =
     whole outsideSet (not (superAllowed N && mbasAllowed m0))
     ∷ buffers wrongLength (wrong (captureLength N) cap ∷ wrong (infoLength N) info ∷ wrong (parityLength N) par ∷ [])
     ∷ []
 
 -- numbers 4 to 8, from the capture
-unfoldable pub lateRows : ℕ → ℕ → List ℕ → List Row
-lateRows N m0 cap =
+unfoldable pub readLateRows : ℕ → ℕ → List ℕ → List Row
+readLateRows N m0 cap =
     each beyondRepair (words N) (isBeyond cap)
     ∷ each fillerNotZero (words N) (isFilled N cap)
     ∷ each wrongMbas (fecBlocks * N) (mbasDiffers m0 cap)
@@ -76,7 +76,7 @@ lateRows N m0 cap =
     ∷ []
 
 abbrev pub readRows : ℕ → ℕ → List ℕ → List ℕ → List ℕ → List Row
-readRows N m0 cap info par = earlyRows N m0 (length cap) (length info) (length par) ++ lateRows N m0 cap
+readRows N m0 cap info par = readEarlyRows N m0 (length cap) (length info) (length par) ++ readLateRows N m0 cap
 
 unfoldable pub readAnswer : ℕ → ℕ → List ℕ → List ℕ → List ℕ → Answer
 readAnswer N m0 cap info par = answerOf (readRows N m0 cap info par) (count (isSeen cap) (words N))

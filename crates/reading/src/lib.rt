@@ -2,7 +2,7 @@
 use answer::Answer;
 ghost use mathlib.Core.Path.{_≡_};
 ghost use Rattle.answer.specs.Rows.{answerOf};
-ghost use Rattle.reading.specs.Read.{earlyRows};
+ghost use Rattle.reading.specs.Read.{readEarlyRows};
 ghost use Rattle.reading.specs.Steps.{verdictOf};
 
 // What the pass over the words found: the first word beyond repair and the first filler word not zero, each the number of words where there
@@ -23,7 +23,7 @@ pub struct BlockTally {
 
 // Numbers 1 and 2, before anything is read.
 pub fn judge(n: u64, m0: u64, capture_len: u64, info_len: u64, parity_len: u64) -> Answer
-    ensures { λ r. ⌜ r ≡ answerOf (earlyRows n m0 «capture_len» «info_len» «parity_len») 0 ⌝ }
+    ensures { λ r. ⌜ r ≡ answerOf (readEarlyRows n m0 «capture_len» «info_len» «parity_len») 0 ⌝ }
 {
     if !line::numbers_allowed(n, m0) {
         return answer::refuse(answer::OUTSIDE_SET, 0);
@@ -46,6 +46,11 @@ pub fn verdict(n: u32, w: WordTally, b: BlockTally) -> Answer
     let c = answer::refuse_if(b.pad < frames, answer::PAD_NOT_ZERO, b.pad as u64, a);
     let d = answer::refuse_if(b.crc < blocks, answer::WRONG_CRC, b.crc as u64, c);
     let e = answer::refuse_if(b.mbas < blocks, answer::WRONG_MBAS, b.mbas as u64, d);
-    let f = answer::refuse_if(w.filler < words, answer::FILLER_NOT_ZERO, w.filler as u64, e);
+    let f = answer::refuse_if(
+        w.filler < words,
+        answer::FILLER_NOT_ZERO,
+        w.filler as u64,
+        e,
+    );
     answer::refuse_if(w.beyond < words, answer::BEYOND_REPAIR, w.beyond as u64, f)
 }

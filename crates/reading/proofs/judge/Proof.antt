@@ -8,7 +8,7 @@ use Rattle.answer.proofs.Turns.{in-turn}
 use Rattle.line.specs.Captures.{superAllowed}
 use Rattle.line.specs.Fec.{mbasAllowed}
 use Rattle.line.proofs.CaptureLaws.{frames-in}
-use Rattle.reading.specs.Read.{earlyRows}
+use Rattle.reading.specs.Read.{readEarlyRows}
 use borrow.Author.Needs.{needs}
 use Rattle.reading.proofs.judge.Statement.{statement}
 use Rattle.reading.proofs.judge.Tie as tie
@@ -26,7 +26,7 @@ refuse-requires : tie.Need-refuse-requires
 refuse-requires c κs = search needs
 
 returns : tie.Need-returns
-unfolding earlyRows inTurn rowThen
+unfolding readEarlyRows inTurn rowThen
 returns c = rw (in-turn, ← (c .before .before .numbers-allowed .ensures), c .before .if1 .taken) (c .refuse .ensures)
 
 mul-capture-bytes : tie.Need-mul-capture-bytes
@@ -54,7 +54,7 @@ refuse-length-requires-3 : tie.Need-refuse-length-requires-3
 refuse-length-requires-3 c κs = search needs
 
 returns-2 : tie.Need-returns-2
-unfolding earlyRows inTurn rowThen faultsThen
+unfolding readEarlyRows inTurn rowThen faultsThen
 returns-2 c =
     let g = c .before .before .before in
     rw (in-turn, inside (g .before), c .refuse-length3 .ensures, c .before .refuse-length2 .ensures, c .before .before .refuse-length .ensures, g .granted .ensures)
