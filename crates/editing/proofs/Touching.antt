@@ -10,6 +10,7 @@ use lib.Dec.{ltb, leb}
 use Rattle.bits.proofs.Common.{clash}
 use Rattle.sizes.specs.Sizes.{blockBits, infoBits, mbasFrom, parityFrom, elementBits, infoElements}
 use Rattle.editing.specs.Edit.{blockFrom, inBlock, touched, touches}
+use Rattle.editing.specs.Listed.{Touch}
 
 -- ---- the client block's own bits
 
@@ -51,11 +52,6 @@ touches-at b i (suc n) j h e =
     le-of q = omega arith
 
 -- .. and only such a bit does
-pub record Touch (b i n : ℕ) : Type 0 where
-  pub bit : ℕ
-  pub within : bit < n
-  pub there : touched b (i + bit) ≡ true
-
 pub touches-some : (b i n : ℕ) → touches b i n ≡ true → Touch b i n
 unfolding touches
 touches-some b i zero e = absurd (clash e refl)
