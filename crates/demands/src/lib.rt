@@ -6,22 +6,27 @@ ghost use mathlib.Core.List.{List};
 ghost use Prim.Native.Nat.{ℕ};
 ghost use lib.ListN.{length};
 ghost use Rattle.answer.specs.Numbers.{allDone};
-ghost use Rattle.coder.specs.Code.{codeRows};
-ghost use Rattle.reading.specs.Read.{readRows};
-ghost use Rattle.editing.specs.Edit.{editRows};
-ghost use Rattle.demands.specs.Demands.{Refuses, Demand2, Demand3};
+ghost use Rattle.answer.specs.Demand1.{Demand1};
+ghost use Rattle.bits.specs.Loops.{count};
+ghost use Rattle.sizes.specs.Sizes.{words};
+ghost use Rattle.coder.specs.Code.{captureOf, codeRows};
+ghost use Rattle.reading.specs.Read.{isSeen, given, readRows};
+ghost use Rattle.editing.specs.Edit.{listed, edited, editRows};
+ghost use Rattle.demands.specs.Demands.{ReadsDamaged, EditsCoded};
 ghost use Rattle.demands.specs.Hurt.{hurtByte, hurtBytes, Chosen};
 
 // Demand 1 of coding.
 pub fn code(n: u64, m0: u64, info: &[u8], parity: &[u8], capture: &mut [u8]) -> Answer
-    ensures { λ r. ⌜ Refuses (codeRows n m0 (now (info .entry)) (now (parity .entry)) (now (capture .entry))) (now (capture .entry)) r (now (capture .exit)) ⌝ }
+    ensures { λ r. ⌜ Demand1 (codeRows n m0 (length (now (info .entry))) (length (now (parity .entry))) (length (now (capture .entry)))) (words n)
+        (captureOf n m0 (now (info .entry)) (now (parity .entry))) (now (capture .entry)) r (now (capture .exit)) ⌝ }
 {
     capture::code(n, m0, info, parity, capture)
 }
 
 // Demand 1 of reading.
 pub fn read(n: u64, m0: u64, capture: &[u8], info: &mut [u8], parity: &mut [u8]) -> Answer
-    ensures { λ r. ⌜ Refuses {B = List ℕ × List ℕ} (readRows n m0 (now (capture .entry)) (now (info .entry)) (now (parity .entry))) (now (info .entry), now (parity .entry)) r
+    ensures { λ r. ⌜ Demand1 {B = List ℕ × List ℕ} (readRows n m0 (now (capture .entry)) (now (info .entry)) (now (parity .entry)))
+        (count (isSeen (now (capture .entry))) (words n)) (given n (now (capture .entry))) (now (info .entry), now (parity .entry)) r
         (now (info .exit), now (parity .exit)) ⌝ }
 {
     capture::read(n, m0, capture, info, parity)
@@ -36,7 +41,8 @@ pub fn edit(
     capture: &mut [u8],
     list: &mut [u64],
 ) -> Answer
-    ensures { λ r. ⌜ Refuses {B = List ℕ × List ℕ} (editRows n block (now (bits .entry)) (now (parity .entry)) (now (capture .entry)) (now (list .entry)))
+    ensures { λ r. ⌜ Demand1 {B = List ℕ × List ℕ} (editRows n block (now (bits .entry)) (now (parity .entry)) (now (capture .entry)) (now (list .entry)))
+        (count (listed n block) (words n)) (edited n block (now (bits .entry)) (now (parity .entry)) (now (capture .entry)) (now (list .entry)))
         (now (capture .entry), now (list .entry)) r (now (capture .exit), now (list .exit)) ⌝ }
 {
     capture::edit(n, block, bits, parity, capture, list)
@@ -53,8 +59,8 @@ pub fn code_damage_read(
     back: &mut [u8],
     parity_back: &mut [u8],
 ) -> Answer
-    ensures { λ r. ⌜ Demand2 n m0 (now (info .entry)) (now (parity .entry)) (now (flips .entry)) (now (capture .entry)) (now (back .entry))
-        (now («parity_back» .entry)) r (now (back .exit)) (now («parity_back» .exit)) ⌝ }
+    ensures { λ r. ⌜ ReadsDamaged n m0 (now (info .entry)) (now (parity .entry)) (now (flips .entry)) (now (capture .entry)) (now (back .entry))
+        (now («parity_back» .entry)) r (now (back .exit), now («parity_back» .exit)) ⌝ }
 {
     let coded = capture::code(n, m0, info, parity, capture);
     if coded.number != 0 {
@@ -106,8 +112,8 @@ pub fn code_edit(
     capture: &mut [u8],
     list: &mut [u64],
 ) -> Answer
-    ensures { λ r. ⌜ Demand3 n m0 block (now (info .entry)) (now (parity .entry)) (now (bits .entry)) (now («new_parity» .entry)) (now (capture .entry))
-        (now (list .entry)) r (now (capture .exit)) (now (list .exit)) ⌝ }
+    ensures { λ r. ⌜ EditsCoded n m0 block (now (info .entry)) (now (parity .entry)) (now (bits .entry)) (now («new_parity» .entry)) (now (capture .entry))
+        (now (list .entry)) r (now (capture .exit), now (list .exit)) ⌝ }
 {
     let coded = capture::code(n, m0, info, parity, capture);
     if coded.number != 0 {

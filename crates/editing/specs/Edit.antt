@@ -128,8 +128,10 @@ editRows N b bits parity cap list =
 unfoldable pub editAnswer : ℕ → ℕ → List ℕ → List ℕ → List ℕ → List ℕ → Answer
 editAnswer N b bits parity cap list = answerOf (editRows N b bits parity cap list) (count (listed N b) (words N))
 
--- what the capture and the list hold afterwards; entries past the listed words stay
+-- what the capture and the list hold where it is done; entries past the listed words stay
+abbrev pub edited : ℕ → ℕ → List ℕ → List ℕ → List ℕ → List ℕ → List ℕ × List ℕ
+edited N b bits parity cap list = (editedCapture N b bits parity cap, listOf N b ++ drop (count (listed N b) (words N)) list)
+
+-- what they hold afterwards
 unfoldable pub editLeaves : ℕ → ℕ → List ℕ → List ℕ → List ℕ → List ℕ → List ℕ × List ℕ
-editLeaves N b bits parity cap list =
-    written (editAnswer N b bits parity cap list)
-    (editedCapture N b bits parity cap, listOf N b ++ drop (count (listed N b) (words N)) list) (cap, list)
+editLeaves N b bits parity cap list = written (editAnswer N b bits parity cap list) (edited N b bits parity cap list) (cap, list)
