@@ -5,7 +5,7 @@ ghost use Prim.Native.Nat.{_+_, _*_, _^_, _≤_, _<_};
 ghost use lib.ListN.{length};
 ghost use Rattle.bits.specs.Bits.{tabulate, bitAt, byteOf, pack, from};
 ghost use Rattle.answer.specs.Outcomes.{Outcome};
-ghost use Rattle.crc.specs.ByBytes.{entries};
+ghost use Rattle.crc.specs.Steps.{entries};
 ghost use Rattle.line.specs.Sizes.{infoBytes, fecBlocks, superElements, infoLength, captureLength, words};
 ghost use Rattle.line.specs.Fec.{fecBit, blockCrc};
 ghost use Rattle.line.specs.Words.{wordsOf};
