@@ -77,9 +77,8 @@ module _ (w p : ℕ) where
       let a = r * 2 ^ suc n % 2 ^ w in
       let o = remOf w p (digit w r) n in
       let t = digit w r n * p in
-      ap (shift w p) (shifts-out r n h (omega arith)) ∙ shift-xor w p (r * 2 ^ n % 2 ^ w) o
-      ∙ ap (λ (x : ℕ). bitXor x (shift w p o)) (shift-on r n (omega arith))
-      ∙ xor-assoc a t (shift w p o) ∙ ap (bitXor a) (xor-comm t (shift w p o))
+      rw (shifts-out r n h (omega arith), shift-xor w p, shift-on r n (omega arith))
+      (xor-assoc a t (shift w p o) ∙ ap (bitXor a) (xor-comm t (shift w p o)))
 
   -- FOLD IN: n bits, at most w, taken in by the register r: they meet its first n digits, and the others move up
   pub fold-in : (r : ℕ) (f : ℕ → ℕ) (n : ℕ) → r < 2 ^ w → n ≤ w → Bits f

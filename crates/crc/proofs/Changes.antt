@@ -16,7 +16,7 @@ use Rattle.crc.proofs.Linear as any
 
 -- ---- the generator
 
--- the code's constant is what the page's powers below x^32 make
+-- the code's constant is what the printed powers below x^32 make
 pub poly-is : poly ≡ 0x04C11DB7
 unfolding poly polynomial
 poly-is = refl
@@ -24,7 +24,7 @@ poly-is = refl
 pub poly-lt : poly < 2 ^ width
 poly-lt = rw poly-is (omega arith)
 
--- what the laws of Divide.antt divide by is all that the page prints
+-- what the laws of Divide.antt divide by is all that document 01 prints ("One FEC block")
 pub generator-is : generator width poly ≡ polynomial powers
 unfolding poly polynomial
 generator-is = refl

@@ -5,7 +5,7 @@ use Prim.Native.Nat.{ℕ, zero, suc, _+_, _*_, _/_, _%_, _^_, _<_}
 use mathlib.Core.Path.{_≡_, refl, sym, ap, ap₂, _∙_}
 use native.Mathlib.Nat.{mod-lt, zero-add, zero-mul, zero-div, mul-assoc, pow-suc, div-eq-of-lt, div-lt-iff-lt-mul}
 use native.Mathlib.Omega.{arith}
-use lib.Bits.{bitXor, xor-zero-r, xor-self, xor-lt, xor-shr, xor-shifted}
+use lib.Bits.{bitXor, xor-self, xor-comm, xor-lt, xor-shr, xor-shifted}
 use lib.Pow.{pow-pos, split, high}
 use Rattle.bits.specs.Bits.{num, digit, added, Bits}
 use Rattle.bits.proofs.Common.{xor-none}
@@ -14,6 +14,13 @@ use Rattle.bits.proofs.Xor.{xor-assoc, xor-swap, times-xor, double}
 use Rattle.crc.specs.Remainder.{shift, step, remFrom, remOf}
 use Rattle.crc.specs.Division.{generator, times, quotient}
 use Rattle.crc.proofs.Linear.{digit-times-lt, top-digit, rem-lt}
+
+xor-left : (a b c : ℕ) → bitXor a (bitXor b c) ≡ bitXor b (bitXor a c)
+xor-left a b c = sym (xor-assoc a b c) ∙ ap (λ (x : ℕ). bitXor x c) (xor-comm a b) ∙ xor-assoc b a c
+
+-- x and y are added twice
+xor-twice : (a b c x y : ℕ) → bitXor (bitXor a c) b ≡ bitXor (bitXor (bitXor a b) (bitXor x y)) (bitXor (bitXor c x) y)
+xor-twice a b c x y = simp (xor-assoc, xor-comm, xor-left, xor-self)
 
 -- a sum of quotients
 times-sum : (a b : ℕ → ℕ) (n g : ℕ) → Bits a → Bits b → times (added a b) n g ≡ bitXor (times a n g) (times b n g)
@@ -43,20 +50,12 @@ module _ (w p : ℕ) (small : p < 2 ^ w) where
       let t = digit w r 0 in
       let q = (t + b) % 2 in
       let l = r * 2 % 2 ^ w in
-      let bit : q < 2 = mod-lt (t + b) (omega arith) in
+      let few : q * p < 2 ^ w = digit-times-lt q p (2 ^ w) (mod-lt (t + b) (omega arith)) small in
       let top : r * 2 ≡ bitXor (t * 2 ^ w) l =
       sym (split (r * 2) w) ∙ ap (λ (x : ℕ). x * 2 ^ w + l) (sym (top-digit w r h)) ∙ sym (xor-shifted t w l (mod-lt (r * 2) (pow-pos w))) in
-      let whole : q * generator w p ≡ bitXor (q * 2 ^ w) (q * p) =
-      gen-sum q ∙ sym (xor-shifted q w (q * p) (digit-times-lt q p (2 ^ w) bit small)) in
-      let next : bitXor (bitXor l (t * p)) (b * p) ≡ bitXor l (q * p) =
-      xor-assoc l (t * p) (b * p) ∙ ap (bitXor l) (sym (times-xor t b p (digit-lt w r 0) k)) in
-      let left : bitXor (r * 2) (b * 2 ^ w) ≡ bitXor (q * 2 ^ w) l =
-      ap₂ bitXor top (sym (xor-zero-r (b * 2 ^ w))) ∙ xor-swap (t * 2 ^ w) l (b * 2 ^ w) 0
-      ∙ ap₂ bitXor (sym (times-xor t b (2 ^ w) (digit-lt w r 0) k)) (xor-zero-r l) in
-      let right : bitXor (q * generator w p) (bitXor (bitXor l (t * p)) (b * p)) ≡ bitXor (q * 2 ^ w) l =
-      ap₂ bitXor whole next ∙ xor-swap (q * 2 ^ w) (q * p) l (q * p)
-      ∙ ap (bitXor (bitXor (q * 2 ^ w) l)) (xor-self (q * p)) ∙ xor-zero-r (bitXor (q * 2 ^ w) l) in
-      left ∙ sym right
+      let whole : q * generator w p ≡ bitXor (q * 2 ^ w) (q * p) = gen-sum q ∙ sym (xor-shifted q w (q * p) few) in
+      let bits : (g : ℕ) → q * g ≡ bitXor (t * g) (b * g) = λ g. times-xor t b g (digit-lt w r 0) k in
+      ap (λ (x : ℕ). bitXor x (b * 2 ^ w)) top ∙ rw (whole, bits (2 ^ w), bits p) (xor-twice (t * 2 ^ w) (b * 2 ^ w) l (t * p) (b * p))
 
   -- DIVISION
   pub division : (f : ℕ → ℕ) (n : ℕ) → Bits f → num n f 0 * 2 ^ w ≡ bitXor (times (quotient w p f) n (generator w p)) (remOf w p f n)
@@ -66,13 +65,9 @@ module _ (w p : ℕ) (small : p < 2 ^ w) where
       let v = num n f 0 in
       let t = times (quotient w p f) n (generator w p) in
       let r = remOf w p f n in
-      let b = f n in
-      ap (λ (x : ℕ). (v * 2 + f x) * 2 ^ w) (zero-add n)
-      ∙ one-more v b (h n)
-      ∙ ap (λ (x : ℕ). bitXor x (b * 2 ^ w)) (ap (λ (x : ℕ). x * 2) (division f n h) ∙ double t r)
-      ∙ xor-assoc (t * 2) (r * 2) (b * 2 ^ w)
-      ∙ ap (bitXor (t * 2)) (take-in r b (rem-lt w p small f n h) (h n))
-      ∙ sym (xor-assoc (t * 2) (quotient w p f n * generator w p) (step w p r b))
+      rw (zero-add, one-more v (f n) (h n), division f n h, double t r)
+      (xor-assoc (t * 2) (r * 2) (f n * 2 ^ w) ∙ ap (bitXor (t * 2)) (take-in r (f n) (rem-lt w p small f n h) (h n))
+      ∙ sym (xor-assoc (t * 2) (quotient w p f n * generator w p) (step w p r (f n))))
     where
       one-more : (v b : ℕ) → b < 2 → (v * 2 + b) * 2 ^ w ≡ bitXor (v * 2 ^ w * 2) (b * 2 ^ w)
       one-more v b h =

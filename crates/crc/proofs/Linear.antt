@@ -65,11 +65,8 @@ module _ (w p : ℕ) where
   pub shift-xor : (r s : ℕ) → shift w p (bitXor r s) ≡ bitXor (shift w p r) (shift w p s)
   unfolding shift
   shift-xor r s =
-      let a = digit w r 0 in
-      let b = digit w s 0 in
-      ap₂ (λ (x y : ℕ). bitXor x (y * p)) (double-xor r s w) (digit-xor w r s 0)
-      ∙ ap (bitXor (bitXor (r * 2 % 2 ^ w) (s * 2 % 2 ^ w))) (times-xor a b p (digit-lt w r 0) (digit-lt w s 0))
-      ∙ xor-swap (r * 2 % 2 ^ w) (s * 2 % 2 ^ w) (a * p) (b * p)
+      rw (double-xor r s w, digit-xor w r s 0, times-xor (digit w r 0) (digit w s 0) p (digit-lt w r 0) (digit-lt w s 0))
+      (xor-swap (r * 2 % 2 ^ w) (s * 2 % 2 ^ w) (digit w r 0 * p) (digit w s 0 * p))
 
   pub shift-zero : shift w p 0 ≡ 0
   shift-zero = shift-xor 0 0 ∙ xor-self (shift w p 0)
@@ -98,8 +95,7 @@ module _ (w p : ℕ) where
   unfolding remFrom shiftN step
   rem-from r f zero = sym (xor-zero-r r)
   rem-from r f (suc n) =
-      ap (λ (x : ℕ). bitXor x (f n * p)) (ap (shift w p) (rem-from r f n) ∙ shift-xor (shiftN w p n r) (remOf w p f n))
-      ∙ xor-assoc (shift w p (shiftN w p n r)) (shift w p (remOf w p f n)) (f n * p)
+      rw (rem-from r f n, shift-xor) (xor-assoc (shift w p (shiftN w p n r)) (shift w p (remOf w p f n)) (f n * p))
 
   -- JOIN: n bits and then m bits: the first part's remainder times x^m, and the second's
   pub join : (f : ℕ → ℕ) (n m : ℕ) → remOf w p f (n + m) ≡ bitXor (shiftN w p m (remOf w p f n)) (remOf w p (λ i. f (n + i)) m)

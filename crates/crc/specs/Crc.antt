@@ -9,7 +9,7 @@ use lib.Dec.{ltb}
 use lib.ListN.{getD, drop}
 use Rattle.crc.specs.Remainder as any
 
--- the generator, by its powers: x^32+x^26+x^23+x^22+x^16+x^12+x^11+x^10+x^8+x^7+x^5+x^4+x^2+x+1
+-- the generator, by its powers as document 01 prints them: x^32+x^26+x^23+x^22+x^16+x^12+x^11+x^10+x^8+x^7+x^5+x^4+x^2+x+1
 abbrev pub powers : List ℕ
 powers = 32 ∷ 26 ∷ 23 ∷ 22 ∷ 16 ∷ 12 ∷ 11 ∷ 10 ∷ 8 ∷ 7 ∷ 5 ∷ 4 ∷ 2 ∷ 1 ∷ 0 ∷ []
 
