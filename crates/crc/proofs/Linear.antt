@@ -34,15 +34,12 @@ top-digit (suc v) r h =
 module _ (w p : ℕ) (small : p < 2 ^ w) where
   pub shift-lt : (r : ℕ) → shift w p r < 2 ^ w
   unfolding shift
-  shift-lt r =
-      xor-lt w (r * 2 % 2 ^ w) (digit w r 0 * p) (mod-lt (r * 2) (pow-pos w)) (digit-times-lt (digit w r 0) p (2 ^ w) (digit-lt w r 0) small)
+  shift-lt r = search (xor-lt, mod-lt, pow-pos, digit-times-lt, digit-lt)
 
   pub rem-from-lt : (r : ℕ) (f : ℕ → ℕ) (n : ℕ) → r < 2 ^ w → Bits f → remFrom w p r f n < 2 ^ w
   unfolding remFrom step
   rem-from-lt r f zero h b = h
-  rem-from-lt r f (suc n) h b =
-      let x = remFrom w p r f n in
-      xor-lt w (shift w p x) (f n * p) (shift-lt x) (digit-times-lt (f n) p (2 ^ w) (b n) small)
+  rem-from-lt r f (suc n) h b = search (xor-lt, shift-lt, digit-times-lt, b)
 
   pub rem-lt : (f : ℕ → ℕ) (n : ℕ) → Bits f → remOf w p f n < 2 ^ w
   rem-lt f n b = rem-from-lt 0 f n (pow-pos w) b
@@ -64,9 +61,7 @@ module _ (w p : ℕ) where
 
   pub shift-xor : (r s : ℕ) → shift w p (bitXor r s) ≡ bitXor (shift w p r) (shift w p s)
   unfolding shift
-  shift-xor r s =
-      rw (double-xor r s w, digit-xor w r s 0, times-xor (digit w r 0) (digit w s 0) p (digit-lt w r 0) (digit-lt w s 0))
-      (xor-swap (r * 2 % 2 ^ w) (s * 2 % 2 ^ w) (digit w r 0 * p) (digit w s 0 * p))
+  shift-xor r s = rw (double-xor, digit-xor, times-xor, digit-lt, xor-swap (r * 2 % 2 ^ w) (s * 2 % 2 ^ w))
 
   pub shift-zero : shift w p 0 ≡ 0
   shift-zero = shift-xor 0 0 ∙ xor-self (shift w p 0)
