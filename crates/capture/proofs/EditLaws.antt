@@ -14,8 +14,7 @@ use Rattle.bits.proofs.Common.{by-bound, clash}
 use Rattle.bits.proofs.Lists.{getD-tabulate}
 use Rattle.bits.proofs.Packing.{bitOf-lt, bitOf-packs}
 use Rattle.bits.proofs.Xor.{digit-xor}
-use Rattle.crc.proofs.Linear.{rem-ext}
-use Rattle.crc.proofs.Changes.{crc-ext, crc-change}
+use Rattle.crc.proofs.Changes.{rem-ext, crc-ext, crc-change}
 use lib.Bits.{bitXor}
 use Rattle.scrambler.specs.Scrambler.{o}
 use Rattle.hamming.proofs.Words.{coded-ext}

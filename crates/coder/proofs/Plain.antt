@@ -10,7 +10,7 @@ use Rattle.bits.specs.Bits.{bitAt, pack, from, Bits, Bytes}
 use Rattle.bits.proofs.Packing.{bitOf-lt, bitOf-packs, bitOf-part, bitOf-zeros}
 use Rattle.bits.proofs.Common.{by-bound}
 use Rattle.crc.specs.Crc.{crcOf}
-use Rattle.crc.specs.ByBytes.{entries, crcBy}
+use Rattle.crc.specs.Steps.{entries, crcBy}
 use Rattle.crc.proofs.Changes.{crc-ext}
 use Rattle.crc.proofs.Bytewise.{bytes-crc}
 use Rattle.sizes.specs.Sizes.{infoBits, mbasFrom, parityBits, parityFrom, fecBits, elementBits, superElements, fecElements, infoBytes, infoElements}

@@ -12,7 +12,7 @@ ghost use Rattle.bits.specs.Bits.{tabulate, num, bitAt, pack, from};
 ghost use Rattle.bits.specs.Loops.{upto};
 ghost use Rattle.answer.specs.Outcomes.{Outcome};
 ghost use Rattle.crc.specs.Crc.{crcOf};
-ghost use Rattle.crc.specs.ByBytes.{entries};
+ghost use Rattle.crc.specs.Steps.{entries};
 ghost use Rattle.hamming.specs.Code.{checksOf};
 ghost use Rattle.matrix.specs.Sums.{positionTable};
 ghost use Rattle.lent.specs.Lent.{byteTable};
