@@ -10,7 +10,7 @@ use lib.Arith.{lt-of-le-ne}
 use lib.Dec.{ltb, leb, eqb}
 use lib.ListN.{getD}
 use Rattle.bits.specs.Bits.{digit, bitOf, bitAt, Bits}
-use Rattle.bits.proofs.Common.{by-bound, clash}
+use Rattle.bits.proofs.Common.{cond-bit, by-bound, clash}
 use Rattle.bits.proofs.Lists.{getD-tabulate}
 use Rattle.bits.proofs.Packing.{bitOf-lt, bitOf-packs}
 use Rattle.bits.proofs.Xor.{digit-xor}
@@ -30,7 +30,7 @@ use Rattle.line.proofs.WordLaws.{laid-ext, word-laid}
 use Rattle.coder.specs.Code.{captureOf}
 use Rattle.editing.specs.Edit.{fecOf, blockFrom, inBlock, replaced, change, crcChange, newCrc, editedBits, editedFec, touched, elementFec, elementLocal, listed, editedWord, editedCapture}
 use Rattle.editing.proofs.Listing.{holding-listed, local-lt}
-use Rattle.editing.proofs.Remaking.{element-of}
+use Rattle.editing.proofs.Remaking.{element-of, local-place-lt}
 use Rattle.editing.proofs.Changing.{change-bits}
 use Rattle.capture.specs.Demand3.{newInfo, newParity}
 use Rattle.capture.proofs.ReadLaws.{words-long, fec-read}
@@ -69,11 +69,7 @@ module _ (N b : ℕ) (bits info : List ℕ) where
   newBit j = cond (leb (blockBits * b) j && ltb j (blockBits * b + blockBits)) (bitAt bits (j - blockBits * b)) (bitAt info j)
 
   new-bits : Bits newBit
-  new-bits j = pick (leb (blockBits * b) j && ltb j (blockBits * b + blockBits)) _ _ (bitOf-lt 8 bits (j - blockBits * b)) (bitOf-lt 8 info j)
-    where
-      pick : (t : Bool) (x y : ℕ) → x < 2 → y < 2 → cond t x y < 2
-      pick true x y hx hy = hx
-      pick false x y hx hy = hy
+  new-bits j = cond-bit (leb (blockBits * b) j && ltb j (blockBits * b + blockBits)) _ _ (bitOf-lt 8 bits (j - blockBits * b)) (bitOf-lt 8 info j)
 
   info-edit : (t i : ℕ) → t < fecBlocks * N → i < infoBits
       → infoBit (newInfo N b bits info) t i ≡ cond (eqb t (fecOf b)) (replaced b bits (infoBit info t) i) (infoBit info t i)
@@ -121,11 +117,7 @@ replaced-bit b bits f g i e = rw e
 
 replaced-lt : (b : ℕ) (bits : List ℕ) (f : ℕ → ℕ) (i : ℕ) → f i < 2 → replaced b bits f i < 2
 unfolding replaced
-replaced-lt b bits f i h = pick (inBlock b i) _ (bitOf-lt 8 bits (i - blockFrom b))
-  where
-    pick : (t : Bool) (x : ℕ) → x < 2 → cond t x (f i) < 2
-    pick true x p = p
-    pick false x p = h
+replaced-lt b bits f i h = cond-bit (inBlock b i) _ _ (bitOf-lt 8 bits (i - blockFrom b)) h
 
 module _ (N m0 b : ℕ) (bits parity info par : List ℕ) where
   abbrev F : ℕ → ℕ → ℕ
@@ -296,9 +288,6 @@ fec-lt : (N e : ℕ) → e < superElements * N → e % superElements < fecElemen
 unfolding elementFec
 fec-lt N e h m = omega arith
 
-place-lt : (e i : ℕ) → i < elementBits → elementBits * elementLocal e + i < fecBits
-place-lt e i h = omega (arith, local-lt e)
-
 -- ---- the theorem
 
 module _ (N m0 b : ℕ) (bits parity info par : List ℕ) where
@@ -321,8 +310,8 @@ module _ (N m0 b : ℕ) (bits parity info par : List ℕ) where
       words-ext N (editedFec b bits parity (fecIn (wordIn cap))) new w
       (λ p m i l. let e = elementIn w in
       let ht = fec-lt N e (held N w p .below) m in
-      edited-fec-ext b bits parity (fecIn (wordIn cap)) old (elementFec e) (λ j k. fec-read N old (wordIn cap) coded-words (λ t. fec-bits m0 info par t) (elementFec e) j ht k) (elementBits * elementLocal e + i) (place-lt e i l)
-      ∙ sym (fec-edit N m0 b bits parity info par (elementFec e) (elementBits * elementLocal e + i) ht (place-lt e i l)))
+      edited-fec-ext b bits parity (fecIn (wordIn cap)) old (elementFec e) (λ j k. fec-read N old (wordIn cap) coded-words (λ t. fec-bits m0 info par t) (elementFec e) j ht k) (elementBits * elementLocal e + i) (local-place-lt e i l)
+      ∙ sym (fec-edit N m0 b bits parity info par (elementFec e) (elementBits * elementLocal e + i) ht (local-place-lt e i l)))
 
   -- a word that is not listed has no touched bit
   kept-bit : (w : ℕ) → listed N b w ≡ false → holds N w ≡ true → elementIn w % superElements < fecElements * fecBlocks → elementFec (elementIn w) ≡ fecOf b
@@ -338,14 +327,14 @@ module _ (N m0 b : ℕ) (bits parity info par : List ℕ) where
       (λ p m i l. let e = elementIn w in
       let t = elementFec e in
       let k = elementBits * elementLocal e + i in
-      sym (fec-edit N m0 b bits parity info par t k (fec-lt N e (held N w p .below) m) (place-lt e i l) ∙ by w n p m i l (ℕ-discrete t (fecOf b))))
+      sym (fec-edit N m0 b bits parity info par t k (fec-lt N e (held N w p .below) m) (local-place-lt e i l) ∙ by w n p m i l (ℕ-discrete t (fecOf b))))
     where
       by : (w : ℕ) → listed N b w ≡ false → holds N w ≡ true → elementIn w % superElements < fecElements * fecBlocks → (i : ℕ) → i < elementBits → Dec (elementFec (elementIn w) ≡ fecOf b)
           → cond (eqb (elementFec (elementIn w)) (fecOf b)) (editedBits b bits parity (old (elementFec (elementIn w)))) (old (elementFec (elementIn w))) (elementBits * elementLocal (elementIn w) + i)
           ≡ old (elementFec (elementIn w)) (elementBits * elementLocal (elementIn w) + i)
       by w n p m i l (yes q) =
           rw (eq-eqb (elementFec (elementIn w)) (fecOf b) q)
-          (untouched b bits parity (old (elementFec (elementIn w))) (elementBits * elementLocal (elementIn w) + i) (place-lt (elementIn w) i l) (kept-bit w n p m q i l _ refl))
+          (untouched b bits parity (old (elementFec (elementIn w))) (elementBits * elementLocal (elementIn w) + i) (local-place-lt (elementIn w) i l) (kept-bit w n p m q i l _ refl))
       by w n p m i l (no q) = rw (ne-eqb (elementFec (elementIn w)) (fecOf b) q)
 
   word-by : (w : ℕ) → w < words N → (t : Bool) → listed N b w ≡ t → cond t (wordsOf N (editedFec b bits parity (fecIn (wordIn cap))) w) (wordIn cap w) ≡ wordsOf N new w

@@ -9,6 +9,7 @@ use borrow.Author.Tests.{ltb-true, not-false}
 use lib.Dec.{ltb}
 use lib.ListN.{length, take, drop, length-take, length-drop}
 use Rattle.bits.proofs.Common.{and-left, and-right}
+use Rattle.bits.proofs.Lists.{part-long}
 use Rattle.answer.specs.Numbers.{allDone}
 use Rattle.answer.specs.Rows.{Row, done, rowNumber, rising}
 use Rattle.answer.specs.Demand1.{Exactly}
@@ -69,11 +70,8 @@ module _ (N t : ℕ) (info : List ℕ) where
     part-empty z = sym (written-refused (partAnswer N t info) part [] (λ h. z (ap (λ (x : Answer). x .number) e ∙ h)))
 
   -- a granted part is 30,583 bytes, so it is never the empty part
-  pub part-long : partAnswer N t info .number ≡ allDone → length (partOf N t info) ≡ infoBytes
+  pub granted-long : partAnswer N t info .number ≡ allDone → length (partOf N t info) ≡ infoBytes
   unfolding partOf
-  part-long z =
+  granted-long z =
       let p = granted-part refl z in
-      ap length (written-done (partAnswer N t info) part [] z) ∙ long info (infoBytes * t) infoBytes (omega (arith, p .few, p .block, p .long))
-    where
-      long : (s : List ℕ) (a n : ℕ) → a + n ≤ length s → length (take n (drop a s)) ≡ n
-      long s a n h = simp (length-take, length-drop) (omega arith)
+      ap length (written-done (partAnswer N t info) part [] z) ∙ part-long (infoBytes * t) infoBytes info (omega (arith, p .few, p .block, p .long))

@@ -8,12 +8,12 @@ use native.Mathlib.Omega.{arith}
 use lib.Bits.{bitXor, xor-self, xor-comm, xor-lt, xor-shr, xor-shifted}
 use lib.Pow.{pow-pos, split, high}
 use Rattle.bits.specs.Bits.{num, digit, added, Bits}
-use Rattle.bits.proofs.Common.{xor-none}
+use Rattle.bits.proofs.Common.{xor-none, bit-times}
 use Rattle.bits.proofs.Numbers.{digit-lt}
 use Rattle.bits.proofs.Xor.{xor-assoc, xor-swap, times-xor, double}
 use Rattle.crc.specs.Remainder.{shift, step, remFrom, remOf}
 use Rattle.crc.specs.Division.{generator, times, quotient}
-use Rattle.crc.proofs.Linear.{digit-times-lt, top-digit, rem-lt}
+use Rattle.crc.proofs.Linear.{top-digit, rem-lt}
 
 xor-left : (a b c : ℕ) → bitXor a (bitXor b c) ≡ bitXor b (bitXor a c)
 xor-left a b c = sym (xor-assoc a b c) ∙ ap (λ (x : ℕ). bitXor x c) (xor-comm a b) ∙ xor-assoc b a c
@@ -41,7 +41,7 @@ module _ (w p : ℕ) (small : p < 2 ^ w) where
   gen-sum q = omega arith
 
   gen-top : (q : ℕ) → q < 2 → q * generator w p / 2 ^ w ≡ q
-  gen-top q h = rw (gen-sum q) (high q w (digit-times-lt q p (2 ^ w) h small))
+  gen-top q h = rw (gen-sum q) (high q w (bit-times q p (2 ^ w) h small))
 
   -- a bit b is taken in by the remainder r: r·x + b·x^w is the quotient's bit times the generator, and the next remainder
   take-in : (r b : ℕ) → r < 2 ^ w → b < 2 → bitXor (r * 2) (b * 2 ^ w) ≡ bitXor ((digit w r 0 + b) % 2 * generator w p) (step w p r b)
@@ -50,7 +50,7 @@ module _ (w p : ℕ) (small : p < 2 ^ w) where
       let t = digit w r 0 in
       let q = (t + b) % 2 in
       let l = r * 2 % 2 ^ w in
-      let few : q * p < 2 ^ w = digit-times-lt q p (2 ^ w) (mod-lt (t + b) (omega arith)) small in
+      let few : q * p < 2 ^ w = bit-times q p (2 ^ w) (mod-lt (t + b) (omega arith)) small in
       let top : r * 2 ≡ bitXor (t * 2 ^ w) l =
       sym (split (r * 2) w) ∙ ap (λ (x : ℕ). x * 2 ^ w + l) (sym (top-digit w r h)) ∙ sym (xor-shifted t w l (mod-lt (r * 2) (pow-pos w))) in
       let whole : q * generator w p ≡ bitXor (q * 2 ^ w) (q * p) = gen-sum q ∙ sym (xor-shifted q w (q * p) few) in
@@ -73,7 +73,7 @@ module _ (w p : ℕ) (small : p < 2 ^ w) where
       one-more v b h =
           let e : (v * 2 + b) * 2 ^ w ≡ v * 2 ^ w * 2 + b * 2 ^ w = omega arith in
           let d : v * 2 ^ w * 2 ≡ v * 2 ^ suc w = rw pow-suc (mul-assoc v (2 ^ w) 2) in
-          let s : b * 2 ^ w < 2 ^ suc w = digit-times-lt b (2 ^ w) (2 ^ suc w) h (omega (arith, pow-pos w)) in
+          let s : b * 2 ^ w < 2 ^ suc w = bit-times b (2 ^ w) (2 ^ suc w) h (omega (arith, pow-pos w)) in
           rw (e, d) (sym (xor-shifted v (suc w) (b * 2 ^ w) s))
 
   -- ---- there is no other remainder

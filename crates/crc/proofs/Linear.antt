@@ -11,15 +11,10 @@ use lib.Pow.{pow-pos}
 use Rattle.bits.specs.Bits.{digit, added, Bits}
 use Rattle.bits.proofs.Numbers.{digit-lt}
 use Rattle.bits.proofs.Xor.{xor-assoc, xor-swap, digit-xor, times-xor, double-xor}
+use Rattle.bits.proofs.Common.{bit-times}
 use Rattle.crc.specs.Remainder.{shift, step, remFrom, remOf, shiftN}
 
 -- ---- digits
-
--- a digit times a number
-pub digit-times-lt : (d a n : ℕ) → d < 2 → a < n → d * a < n
-digit-times-lt zero a n h l = rw zero-mul (omega arith)
-digit-times-lt (suc zero) a n h l = rw one-mul l
-digit-times-lt (suc (suc d)) a n h l = absurd (omega arith)
 
 -- the digit that leaves on top
 pub top-digit : (w r : ℕ) → r < 2 ^ w → digit w r 0 ≡ r * 2 / 2 ^ w
@@ -34,12 +29,12 @@ top-digit (suc v) r h =
 module _ (w p : ℕ) (small : p < 2 ^ w) where
   pub shift-lt : (r : ℕ) → shift w p r < 2 ^ w
   unfolding shift
-  shift-lt r = search (xor-lt, mod-lt, pow-pos, digit-times-lt, digit-lt)
+  shift-lt r = search (xor-lt, mod-lt, pow-pos, bit-times, digit-lt)
 
   pub rem-from-lt : (r : ℕ) (f : ℕ → ℕ) (n : ℕ) → r < 2 ^ w → Bits f → remFrom w p r f n < 2 ^ w
   unfolding remFrom step
   rem-from-lt r f zero h b = h
-  rem-from-lt r f (suc n) h b = search (xor-lt, shift-lt, digit-times-lt, b)
+  rem-from-lt r f (suc n) h b = search (xor-lt, shift-lt, bit-times, b)
 
   pub rem-lt : (f : ℕ → ℕ) (n : ℕ) → Bits f → remOf w p f n < 2 ^ w
   rem-lt f n b = rem-from-lt 0 f n (pow-pos w) b

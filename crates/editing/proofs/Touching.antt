@@ -1,6 +1,6 @@
 -- Which bits of an FEC block an edit touches, and which elements hold one of them. Assumes nothing.
 use Prim.Native.Nat.{ℕ, zero, suc, _+_, _-_, _*_, _/_, _≤_, _<_}
-use mathlib.Core.Bool.{Bool, true, false, _&&_, _||_}
+use mathlib.Core.Bool.{Bool, true, false, _&&_, _||_, and-false}
 use mathlib.Core.Path.{_≡_, refl, sym, ap, _∙_}
 use mathlib.Core.Logic.{⊎-elim}
 use native.Mathlib.Nat.{not-suc-le-zero, eq-or-lt-of-le, le-of-suc-le-suc}
@@ -24,11 +24,7 @@ block-before b i h = rw (lt-leb (blockFrom b) i h)
 
 pub block-past : (b i : ℕ) → blockFrom b + blockBits ≤ i → inBlock b i ≡ false
 unfolding inBlock
-block-past b i h = rw (le-ltb i (blockFrom b + blockBits) h) (none (leb (blockFrom b) i))
-  where
-    none : (x : Bool) → x && false ≡ false
-    none true = refl
-    none false = refl
+block-past b i h = rw (le-ltb i (blockFrom b + blockBits) h) (and-false (leb (blockFrom b) i))
 
 -- ---- one bit among n
 

@@ -4,9 +4,9 @@ use native.Mathlib.Omega.{arith}
 use Rattle.bits.specs.Bits.{digit}
 use Rattle.bits.proofs.LoopLaws.{Folded, folded-more, loops}
 use Rattle.bits.proofs.Numbers.{digit-lt}
+use Rattle.bits.proofs.Common.{bit-times}
 use Rattle.crc.specs.Crc.{width, poly}
 use Rattle.crc.specs.Steps.{productStep}
-use Rattle.crc.proofs.Linear.{digit-times-lt}
 use Rattle.crc.proofs.multiply.Statement.{statement}
 use Rattle.crc.proofs.multiply.Tie as tie
 
@@ -34,7 +34,7 @@ mul-r c =
     let s = c .before .before in
     let b = s .before .args .b in
     let j = s .loop .j in
-    record { fits = digit-times-lt (digit 32 b j) (s .before .args .a) (2 ^ 32) (digit-lt 32 b j) (omega arith) }
+    record { fits = bit-times (digit 32 b j) (s .before .args .a) (2 ^ 32) (digit-lt 32 b j) (omega arith) }
 
 add-j : tie.Need-add-j Inv-loop μ-loop
 add-j c = search loops
