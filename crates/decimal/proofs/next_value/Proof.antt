@@ -1,27 +1,18 @@
--- `count_line::next_value` meets its contract: each return by the tests that led there. Assumes nothing.
+-- `decimal::next_value` meets its contract: each return by the tests that led there. Assumes nothing.
 use borrow.Author.Tests.{lt-ltb, le-ltb, le-leb, lt-leb}
 use native.Mathlib.Omega.{arith}
-use Rattle.count_line.specs.Reading.{nextValue}
+use Rattle.decimal.specs.Steps.{nextValue}
 use borrow.Author.Needs.{needs}
-use Rattle.count_line.proofs.next_value.Statement.{statement}
-use Rattle.count_line.proofs.next_value.Tie as tie
-
-add-result : tie.Need-add-result
-add-result c = search needs
+use Rattle.decimal.proofs.next_value.Statement.{statement}
+use Rattle.decimal.proofs.next_value.Tie as tie
 
 returns : tie.Need-returns
 unfolding nextValue
 returns c = simp (lt-ltb _ _ (c .if1 .taken))
 
-add-result-2 : tie.Need-add-result-2
-add-result-2 c = search needs
-
 returns-2 : tie.Need-returns-2
 unfolding nextValue
 returns-2 c = simp (le-ltb _ _ (c .before .if1 .left), lt-leb _ _ (c .if2 .taken))
-
-add-result-3 : tie.Need-add-result-3
-add-result-3 c = search needs
 
 returns-3 : tie.Need-returns-3
 unfolding nextValue
@@ -36,9 +27,6 @@ cast-next c = search needs
 add-next : tie.Need-add-next
 add-next c = search needs
 
-add-result-4 : tie.Need-add-result-4
-add-result-4 c = search needs
-
 returns-4 : tie.Need-returns-4
 unfolding nextValue
 returns-4 c = simp (le-ltb _ _ (c .before .before .before .if1 .left), le-leb _ _ (c .before .before .if2 .left), le-leb _ _ (c .before .if3 .left)) (omega arith)
@@ -50,16 +38,4 @@ returns-5 c = simp (le-ltb _ _ (c .before .before .before .if1 .left), le-leb _ 
 pub next-value-spec : {M : Type 1} → statement M
 next-value-spec =
     tie.close
-    (tie.spec
-    add-result
-    returns
-    add-result-2
-    returns-2
-    add-result-3
-    returns-3
-    mul-next
-    cast-next
-    add-next
-    add-result-4
-    returns-4
-    returns-5)
+    (tie.spec returns returns-2 returns-3 mul-next cast-next add-next returns-4 returns-5)
