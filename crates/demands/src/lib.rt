@@ -5,13 +5,14 @@ ghost use mathlib.Core.Path.{_≡_};
 ghost use mathlib.Core.List.{List};
 ghost use Prim.Native.Nat.{ℕ};
 ghost use lib.ListN.{length};
-ghost use Rattle.answer.specs.Numbers.{allDone};
+ghost use Rattle.answer.specs.Outcomes.{Outcome};
 ghost use Rattle.answer.specs.Demand1.{Demand1};
 ghost use Rattle.bits.specs.Loops.{count};
 ghost use Rattle.sizes.specs.Sizes.{words};
 ghost use Rattle.coder.specs.Code.{captureOf, codeRows};
 ghost use Rattle.reading.specs.Read.{isSeen, given, readRows};
 ghost use Rattle.editing.specs.Edit.{listed, edited, editRows};
+ghost use Rattle.mapping.specs.RoundTrip.{mapUnmapAnswer, mapUnmapLeaves};
 ghost use Rattle.demands.specs.Demands.{ReadsDamaged, EditsCoded};
 ghost use Rattle.demands.specs.Hurt.{hurtByte, hurtBytes, Chosen};
 
@@ -122,7 +123,7 @@ pub fn code_edit(
     capture::edit(n, block, bits, new_parity, capture, list)
 }
 
-// Maps groups into a window and takes them out again.
+// The round trip of windows: maps groups into a window, and takes them out again where that was done.
 pub fn map_unmap(
     c: u64,
     f: u64,
@@ -131,7 +132,8 @@ pub fn map_unmap(
     window: &mut [u8],
     back: &mut [u8],
 ) -> Answer
-    ensures { λ r. ⌜ (r .number ≡ allDone → length (now (back .entry)) ≡ length (now (groups .entry)) → now (back .exit) ≡ now (groups .entry)) ⌝ }
+    ensures { λ r. ⌜ Outcome {B = List ℕ × List ℕ} (mapUnmapAnswer c f n (now (groups .entry)) (now (window .entry)) (now (back .entry)))
+        (mapUnmapLeaves c f n (now (groups .entry)) (now (window .entry)) (now (back .entry))) r (now (window .exit), now (back .exit)) ⌝ }
 {
     let mapped = mapping::map(c, f, n, groups, window);
     if mapped.number != 0 {
