@@ -1,11 +1,6 @@
 // Captures: the entry points. Each takes any bytes and any numbers and refuses by document 01's table.
 use answer::Answer;
-ghost use Prim.Native.Nat.{_*_};
-ghost use mathlib.Core.Bool.{_&&_};
 ghost use mathlib.Core.Path.{_≡_};
-ghost use lib.Dec.{ltb};
-ghost use Rattle.sizes.specs.Sizes.{fecBlocks};
-ghost use Rattle.line.specs.Captures.{superAllowed};
 ghost use Rattle.answer.specs.Outcomes.{Outcome};
 ghost use Rattle.coder.specs.Code.{codeAnswer, codeLeaves};
 ghost use Rattle.reading.specs.Read.{readAnswer, readLeaves};
@@ -28,18 +23,11 @@ pub fn information(n: u64, t: u64, info: &[u8]) -> &[u8]
 pub fn information_answer(n: u64, t: u64, info: &[u8]) -> Answer
     ensures { λ r. ⌜ r ≡ partAnswer n t (now (info .entry)) ⌝ }
 {
-    if !has_fec_block(n, t) {
+    if !line::one_of(n, sizes::FEC_BLOCKS as u32, t) {
         return answer::refuse(answer::OUTSIDE_SET, 0);
     }
     let stated = sizes::SUPER_INFO_BYTES as u64 * n;
     answer::refuse_length(1, info.len() as u64, stated, answer::granted(0))
-}
-
-// Whether a capture of n super frames has FEC block t.
-fn has_fec_block(n: u64, t: u64) -> bool
-    ensures { λ r. ⌜ r ≡ (superAllowed n && ltb t (fecBlocks * n)) ⌝ }
-{
-    line::super_allowed(n) && t / (sizes::FEC_BLOCKS as u64) < n
 }
 
 // Codes n super frames whose FEC blocks count from m0 on. The count is the number of words written.

@@ -17,7 +17,7 @@ use Rattle.capture.proofs.information_answer.Statement.{statement}
 use Rattle.capture.proofs.information_answer.Tie as tie
 
 inside : (c : tie.Else1) → let a = c .before .before .before .args in not (superAllowed (a .n) && ltb (a .t) (fecBlocks * a .n)) ≡ false
-inside c = ap not (sym (c .before .has-fec-block .ensures)) ∙ c .if1 .left
+inside c = ap not (sym (c .before .one-of .ensures)) ∙ c .if1 .left
 
 few : (c : tie.Else1) → c .before .before .before .args .n < 9
 few c =
@@ -25,15 +25,15 @@ few c =
     let outside = superAllowed (a .n) && ltb (a .t) (fecBlocks * a .n) in
     super-frames (a .n) (and-left (superAllowed (a .n)) (ltb (a .t) (fecBlocks * a .n)) (not-false outside (inside c))) .few
 
-has-fec-block-requires : tie.Need-has-fec-block-requires
-has-fec-block-requires c κs = search needs
+one-of-requires : tie.Need-one-of-requires
+one-of-requires c κs = search needs
 
 refuse-requires : tie.Need-refuse-requires
 refuse-requires c κs = search needs
 
 returns : tie.Need-returns
 unfolding partAnswer partRows inTurn rowThen
-returns c = rw (in-turn, ← (c .before .before .has-fec-block .ensures), c .before .if1 .taken) (c .refuse .ensures)
+returns c = rw (in-turn, ← (c .before .before .one-of .ensures), c .before .if1 .taken) (c .refuse .ensures)
 
 mul-stated : tie.Need-mul-stated
 mul-stated c = omega (arith, few c)
@@ -52,7 +52,7 @@ pub information-answer-spec : {M : Type 1} → statement M
 information-answer-spec =
     tie.close
     (tie.spec
-    has-fec-block-requires
+    one-of-requires
     refuse-requires
     returns
     mul-stated
