@@ -1,5 +1,7 @@
 -- `line::one_of` meets its contract: an allowed number of super frames is small, so that the product fits. Assumes nothing.
+use Prim.Native.Nat.{_≤_}
 use mathlib.Core.Path.{sym, _∙_}
+use native.Mathlib.Nat.{mul-le-mul}
 use native.Mathlib.Omega.{arith}
 use Rattle.line.proofs.CaptureLaws.{super-frames}
 use borrow.Author.Needs.{needs}
@@ -10,7 +12,12 @@ super-allowed-requires : tie.Need-super-allowed-requires
 super-allowed-requires c κs = search needs
 
 mul-result : tie.Need-mul-result
-mul-result c = let s = c .before in omega (arith, super-frames (s .before .args .n) (sym (s .super-allowed .ensures) ∙ c .if1 .taken))
+mul-result c =
+    let s = c .before in
+    let a = s .before .args in
+    let few : a .n ≤ 8 = omega (arith, super-frames (a .n) (sym (s .super-allowed .ensures) ∙ c .if1 .taken)) in
+    let small : a .each ≤ 4294967295 = omega arith in
+    omega (arith, mul-le-mul small few)
 
 returns : tie.Need-returns
 returns c = let s = c .before in rw (← (s .super-allowed .ensures), c .if1 .taken)
