@@ -59,7 +59,7 @@ editedFec b bits parity F t = cond (eqb t (fecOf b)) (editedBits b bits parity (
 unfoldable pub touched : ℕ → ℕ → Bool
 touched b i = inBlock b i || (leb infoBits i && ltb i mbasFrom) || leb parityFrom i
 
--- element e is one of FEC block t, its local element m: bit i of it is bit 119 m + i of the block
+-- element e is one of FEC block t, its local element m: bit i of it is bit 119 m + i of the block (`element-of` of proofs/Remaking.antt)
 unfoldable pub elementFec : ℕ → ℕ
 elementFec e = fecBlocks * (e / superElements) + e % superElements / fecElements
 
@@ -80,7 +80,7 @@ listed N b w =
     holds N w && not (isPad (elementIn w)) && eqb (elementFec (elementIn w)) (fecOf b)
     && touches b (elementBits * elementLocal (elementIn w)) elementBits
 
--- the numbers below n that p picks, rising
+-- the numbers below n that p picks, rising: `list-is` of proofs/Promises.antt says what the list made so is
 unfoldable pub picked : (ℕ → Bool) → ℕ → List ℕ
 picked p zero = []
 picked p (suc n) = picked p n ++ cond (p n) (n ∷ []) []

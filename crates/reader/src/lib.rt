@@ -69,8 +69,8 @@ fn read_accepted(n: usize, m0: u64, capture: &[u8], info: &mut [u8], parity: &mu
 }
 
 // A place for the bytes of one super frame.
-fn blank() -> [u8; scrambler::FRAME_BYTES] {
-    [0u8; scrambler::FRAME_BYTES]
+fn blank() -> [u8; sizes::SUPER_BYTES] {
+    [0u8; sizes::SUPER_BYTES]
 }
 
 // Both passes, and the writing where nothing is wrong. The buffer is lent for one super frame at a time.
