@@ -25,6 +25,9 @@ few c =
     let outside = superAllowed (a .n) && ltb (a .t) (fecBlocks * a .n) in
     super-frames (a .n) (and-left (superAllowed (a .n)) (ltb (a .t) (fecBlocks * a .n)) (not-false outside (inside c))) .few
 
+cast-one-of : tie.Need-cast-one-of
+cast-one-of c = search needs
+
 one-of-requires : tie.Need-one-of-requires
 one-of-requires c κs = search needs
 
@@ -52,6 +55,7 @@ pub information-answer-spec : {M : Type 1} → statement M
 information-answer-spec =
     tie.close
     (tie.spec
+    cast-one-of
     one-of-requires
     refuse-requires
     returns

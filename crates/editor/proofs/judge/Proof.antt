@@ -24,6 +24,9 @@ few c =
     let a = c .before .before .args in
     super-frames (a .n) (and-left (superAllowed (a .n)) (ltb (a .block) (blocksOf (a .n))) (not-false (superAllowed (a .n) && ltb (a .block) (blocksOf (a .n))) (inside c))) .few
 
+cast-one-of : tie.Need-cast-one-of
+cast-one-of c = search needs
+
 one-of-requires : tie.Need-one-of-requires
 one-of-requires c κs = search needs
 
@@ -74,6 +77,7 @@ pub judge-spec : {M : Type 1} → statement M
 judge-spec =
     tie.close
     (tie.spec
+    cast-one-of
     one-of-requires
     refuse-requires
     returns
