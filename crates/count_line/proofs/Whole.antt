@@ -58,16 +58,16 @@ module _ (s : List ℕ) where
   kept : Kept (moreOf startOf s)
   kept = ⊎-elim at-end past (eq-or-lt-of-le (line-first .within))
     where
+      by : (ended : Bool) → moreOf startOf s ≡ record { value = number n; some = ltb 0 n; ended = ended } → Kept (moreOf startOf s)
+      by ended w = record { value-is = ap (λ (l : Line). l .value) w; some-is = ap (λ (l : Line). l .some) w }
+
       at-end : n ≡ length s → Kept (moreOf startOf s)
-      at-end e =
-          let w : moreOf startOf s ≡ record { value = number n; some = ltb 0 n; ended = false } = ap (upto (stepAt s) startOf) (sym e) ∙ within n (omega arith) in
-          record { value-is = ap (λ (l : Line). l .value) w; some-is = ap (λ (l : Line). l .some) w }
+      at-end e = by false (ap (upto (stepAt s) startOf) (sym e) ∙ within n (omega arith))
 
       past : n < length s → Kept (moreOf startOf s)
       past h =
           let e : suc (n + (length s - suc n)) ≡ length s = omega arith in
-          let w : moreOf startOf s ≡ record { value = number n; some = ltb 0 n; ended = true } = ap (upto (stepAt s) startOf) (sym e) ∙ behind (length s - suc n) h in
-          record { value-is = ap (λ (l : Line). l .value) w; some-is = ap (λ (l : Line). l .some) w }
+          by true (ap (upto (stepAt s) startOf) (sym e) ∙ behind (length s - suc n) h)
 
 -- ---- the answer
 
@@ -77,7 +77,8 @@ count-chain s = in-turn _ _
 
 -- an empty line, one with a byte that is no digit, one above every count, and a count
 module _ (v : ℕ) where
-  above : (t : Bool) → ltb places (min v tooMuch) ≡ t → cond t (refused outsideSet 0) (done (min v tooMuch)) ≡ cond (ltb places v) (refused outsideSet 0) (done v)
+  above : (t : Bool) → ltb places (min v tooMuch) ≡ t
+      → cond t (refused outsideSet 0) (done (min v tooMuch)) ≡ cond (ltb places v) (refused outsideSet 0) (done v)
   above true e = rw (lt-ltb places v (omega (arith, ltb-true places (min v tooMuch) e)))
   above false e =
       let l : min v tooMuch ≤ places = ltb-false places (min v tooMuch) e in

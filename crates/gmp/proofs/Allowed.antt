@@ -2,7 +2,8 @@
 -- refuse exactly what is none. Assumes nothing.
 use Prim.Native.Nat.{ℕ, _+_, _-_, _≤_}
 use mathlib.Core.Bool.{Bool, false}
-use mathlib.Core.Path.{_≡_, sym, _∙_}
+use mathlib.Core.Path.{_≡_, refl, sym, _∙_}
+use mathlib.Core.Logic.{_↔_}
 use native.Mathlib.Omega.{arith}
 use borrow.Author.Tests.{ltb-false, eqb-false, le-ltb}
 use Rattle.bits.proofs.Common.{or-left, or-right}
@@ -27,6 +28,9 @@ module _ (c j : ℕ) where
   pub not-outside : Place c j → outsidePlace c j ≡ false
   not-outside p = rw (le-ltb places c (p .count), le-ltb j 1 (p .from), le-ltb places j (p .to))
 
+  pub places-exactly : (outsidePlace c j ≡ false) ↔ Place c j
+  places-exactly = (inside refl, not-outside)
+
 module _ (c f n : ℕ) where
   -- n places from place f on, also none, at or before the last
   pub stretches-all : c ≤ 10220 → 1 ≤ f → f + n - 1 ≤ 10220 → Stretch c f n
@@ -39,3 +43,6 @@ module _ (c f n : ℕ) where
 
   pub not-outside-stretch : Stretch c f n → outsideStretch c f n ≡ false
   not-outside-stretch s = rw (le-ltb places c (s .count), le-ltb f 1 (s .from), le-ltb places (f + n - 1) (omega (arith, s .to)))
+
+  pub stretches-exactly : (outsideStretch c f n ≡ false) ↔ Stretch c f n
+  stretches-exactly = (stretch-in refl, not-outside-stretch)

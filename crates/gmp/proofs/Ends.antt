@@ -10,7 +10,7 @@ use Rattle.gmp.specs.Steps.{Place}
 use Rattle.gmp.specs.Runs.{EndsRun, lastOfRun, runsFrom}
 use Rattle.gmp.proofs.Residues.{data-of, stuff-of, data-residue, stuff-residue, residue-up, residue-down, split, last-residue}
 use Rattle.sizes.specs.Sizes.{places}
-use Rattle.gmp.proofs.Stretches.{ends-last, last-ends, runs-last, runs-more}
+use Rattle.gmp.proofs.Stretches.{ends-by, ends-last, last-ends, runs-last, runs-more}
 
 -- where no place is of the other kind the run goes to the last place
 to-end : (c j : ℕ) (b : Bool) → Place c j → ((k : ℕ) → isData c k ≡ b) → EndsRun c j places
@@ -28,7 +28,8 @@ all-stuff c j p e = ends-last c j places (to-end c j false p (λ k. stuff-of c k
 over : (x y : ℕ) → places ≤ x % places + y → x % places + y < places + places → (x + y) % places ≡ x % places + y - places
 over x y h l = omega arith
 
-module _ (c j m : ℕ) (p : Place c j) (pos : 0 < c) (s : c ≤ j * c % places) (low : m * c ≤ places - 1 - j * c % places) (high : places - 1 - j * c % places < m * c + c) where
+module _ (c j m : ℕ) (p : Place c j) (pos : 0 < c) (s : c ≤ j * c % places)
+    (low : m * c ≤ places - 1 - j * c % places) (high : places - 1 - j * c % places < m * c + c) where
   stuff-at : (k : ℕ) → k ≤ m → (j + k) * c % places ≡ j * c % places + k * c
   stuff-at k h = residue-up c j k (omega (arith, mul-le-mul-right c h))
 
@@ -38,7 +39,7 @@ module _ (c j m : ℕ) (p : Place c j) (pos : 0 < c) (s : c ≤ j * c % places) 
       by : Dec (places - j ≤ m) → j + m < places
       by (yes h) =
           let e : j + (places - j) ≡ places = omega (arith, p .to) in
-          let z : places * c % places ≡ j * c % places + (places - j) * c = ap (λ (x : ℕ). x * c % places) (sym e) ∙ stuff-at (places - j) h in
+          let z = ap (λ (x : ℕ). x * c % places) (sym e) ∙ stuff-at (places - j) h in
           absurd (omega (arith, last-residue c))
       by (no n) = omega arith
 
@@ -50,21 +51,16 @@ module _ (c j m : ℕ) (p : Place c j) (pos : 0 < c) (s : c ≤ j * c % places) 
 
   pub stuff-ends : EndsRun c j (j + m)
   stuff-ends =
-      record {
-        from = omega arith;
-        to = omega (arith, stuff-before);
-        same = λ k a b.
-            let e : j + (k - j) ≡ k = omega arith in
-            ap (isData c) (sym e) ∙ stuff-of c (j + (k - j)) (omega (arith, stuff-at (k - j) (omega arith))) ∙ sym (stuff-of c j s);
-        other = λ l. ap (isData c) (sym (add-suc j m)) ∙ data-of c (j + suc m) stuff-behind ∙ ap not (sym (stuff-of c j s));
-      }
+      ends-by c j m false (omega (arith, stuff-before)) (λ k h. stuff-of c (j + k) (omega (arith, stuff-at k h)))
+      (λ l. ap (isData c) (sym (add-suc j m)) ∙ data-of c (j + suc m) stuff-behind)
 
 -- ---- a run of data: m is how often P - c fits into the residue
 
 under : (x y w k : ℕ) → w + y ≡ k * places → x % places < w → w ≤ x % places + places → (x + y) % places ≡ x % places + places - w
 under x y w k e h l = omega arith
 
-module _ (c j m : ℕ) (p : Place c j) (pos : c < places) (d : j * c % places < c) (low : m * (places - c) ≤ j * c % places) (high : j * c % places < m * (places - c) + (places - c)) where
+module _ (c j m : ℕ) (p : Place c j) (pos : c < places) (d : j * c % places < c)
+    (low : m * (places - c) ≤ j * c % places) (high : j * c % places < m * (places - c) + (places - c)) where
   data-at : (k : ℕ) → k ≤ m → (j + k) * c % places ≡ j * c % places - k * (places - c)
   data-at k h = residue-down c j k (p .count) (omega (arith, mul-le-mul-right (places - c) h))
 
@@ -74,7 +70,7 @@ module _ (c j m : ℕ) (p : Place c j) (pos : c < places) (d : j * c % places < 
       by : Dec (suc (places - j) ≤ m) → j + m ≤ places
       by (yes h) =
           let e : j + (places - j) ≡ places = omega (arith, p .to) in
-          let z : places * c % places ≡ j * c % places - (places - j) * (places - c) = ap (λ (x : ℕ). x * c % places) (sym e) ∙ data-at (places - j) (omega arith) in
+          let z = ap (λ (x : ℕ). x * c % places) (sym e) ∙ data-at (places - j) (omega arith) in
           let u : suc (places - j) * (places - c) ≡ (places - j) * (places - c) + (places - c) = omega arith in
           absurd (omega (arith, last-residue c, mul-le-mul-right (places - c) h))
       by (no n) = omega arith
@@ -86,14 +82,8 @@ module _ (c j m : ℕ) (p : Place c j) (pos : c < places) (d : j * c % places < 
 
   pub data-ends : EndsRun c j (j + m)
   data-ends =
-      record {
-        from = omega arith;
-        to = data-before;
-        same = λ k a b.
-            let e : j + (k - j) ≡ k = omega arith in
-            ap (isData c) (sym e) ∙ data-of c (j + (k - j)) (omega (arith, data-at (k - j) (omega arith))) ∙ sym (data-of c j d);
-        other = λ l. ap (isData c) (sym (add-suc j m)) ∙ stuff-of c (j + suc m) data-behind ∙ ap not (sym (data-of c j d));
-      }
+      ends-by c j m true data-before (λ k h. data-of c (j + k) (omega (arith, data-at k h)))
+      (λ l. ap (isData c) (sym (add-suc j m)) ∙ stuff-of c (j + suc m) data-behind)
 
 -- ---- the code's two formulas
 
@@ -108,6 +98,9 @@ data-last c j p e n =
     let below : c < places = omega (arith, p .count) in
     let m = j * c % places / (places - c) in
     ends-last c j (j + m) (data-ends c j m p below (data-residue c j e) (div-mul-le-self (j * c % places) (places - c)) (lt-div-mul-add (omega arith)))
+
+pub last-to : {c j l : ℕ} → Place c j → l ≡ lastOfRun c j → l ≤ places
+last-to {c} {j} p e = omega (arith, last-ends c j (p .to) .to)
 
 -- ---- handing over: what holds where a run that ends at l goes over to the other kind
 

@@ -28,7 +28,8 @@ unfolding runOf rising rowNumber inTurn rowThen
 run-exactly c j =
     rw (by (outsidePlace c j) (kindAt c j) (lastOfRun c j), ← in-turn (runsRows c j) 0) (exactly (runsRows c j) 0 refl)
   where
-    by : (b : Bool) (k l : ℕ) → numbered (cond b (record { number = outsideSet; kind = kindNumber Stuff; last = 0 }) (record { number = allDone; kind = k; last = l }))
+    by : (b : Bool) (k l : ℕ)
+        → numbered (cond b (record { number = outsideSet; kind = kindNumber Stuff; last = 0 }) (record { number = allDone; kind = k; last = l }))
         ≡ cond b (refused outsideSet 0) (done 0)
     by true k l = refl
     by false k l = refl

@@ -33,8 +33,8 @@ before c f = (f - 1) * c / places
 pub data-split : (c f n : ℕ) → c ≤ places → 1 ≤ f → before c f + dataFrom c f n ≡ (f - 1 + n) * c / places
 unfolding dataFrom
 data-split c f n h l =
-    let all : count (λ k. isData c (1 + k)) (f - 1 + n) ≡ count (λ k. isData c (1 + k)) (f - 1) + count (λ k. isData c (1 + (f - 1 + k))) n = count-add (λ k. isData c (1 + k)) (f - 1) n in
-    let same : count (λ k. isData c (1 + (f - 1 + k))) n ≡ count (λ k. isData c (f + k)) n = count-ext (λ k. isData c (1 + (f - 1 + k))) (λ k. isData c (f + k)) n (λ k m. ap (isData c) (shift k)) in
+    let all = count-add (λ k. isData c (1 + k)) (f - 1) n in
+    let same = count-ext (λ k. isData c (1 + (f - 1 + k))) (λ k. isData c (f + k)) n (λ k m. ap (isData c) (shift k)) in
     omega (arith, all, same, floor c (f - 1 + n) h, floor c (f - 1) h)
   where
     shift : (k : ℕ) → 1 + (f - 1 + k) ≡ f + k

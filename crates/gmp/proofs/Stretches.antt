@@ -1,6 +1,6 @@
 -- A run is a longest stretch of one kind: what `lastOfRun` and `runsFrom` mean, and that nothing else means it. Assumes nothing.
 use Prim.Native.Nat.{ℕ, zero, suc, _+_, _-_, _≤_, _<_}
-use mathlib.Core.Bool.{Bool, true, false, not, Bool·beq}
+use mathlib.Core.Bool.{Bool, true, false, cond, not, Bool·beq}
 use mathlib.Core.Path.{_≡_, refl, sym, ap, _∙_}
 use mathlib.Core.Logic.{⊎-elim}
 use native.Mathlib.Nat.{add-zero, add-suc, eq-or-lt-of-le, lt-of-not-le}
@@ -16,29 +16,21 @@ use Rattle.gmp.specs.Runs.{changes, lastOfRun, runsFrom, EndsRun}
 
 -- ---- small laws
 
-beq-same : (a b : Bool) → b ≡ a → not (Bool·beq a b) ≡ false
-beq-same true true e = refl
-beq-same false false e = refl
-beq-same true false e = absurd (clash e refl)
-beq-same false true e = absurd (clash refl e)
+-- b is the other of a where t says so
+abbrev pub turned : Bool → Bool → Bool
+turned t a = cond t (not a) a
 
-beq-other : (a b : Bool) → b ≡ not a → not (Bool·beq a b) ≡ true
-beq-other true false e = refl
-beq-other false true e = refl
-beq-other true true e = absurd (clash refl e)
-beq-other false false e = absurd (clash e refl)
+beq-turned : (a t : Bool) → not (Bool·beq a (turned t a)) ≡ t
+beq-turned true true = refl
+beq-turned true false = refl
+beq-turned false true = refl
+beq-turned false false = refl
 
-same-beq : (a b : Bool) → not (Bool·beq a b) ≡ false → b ≡ a
-same-beq true true e = refl
-same-beq false false e = refl
-same-beq true false e = absurd (clash refl e)
-same-beq false true e = absurd (clash refl e)
-
-other-beq : (a b : Bool) → not (Bool·beq a b) ≡ true → b ≡ not a
-other-beq true true e = absurd (clash e refl)
-other-beq false false e = absurd (clash e refl)
-other-beq true false e = refl
-other-beq false true e = refl
+turned-beq : (a b : Bool) → b ≡ turned (not (Bool·beq a b)) a
+turned-beq true true = refl
+turned-beq true false = refl
+turned-beq false true = refl
+turned-beq false false = refl
 
 not-self : (a : Bool) → a ≡ not a → ⊥
 not-self true e = clash refl e
@@ -54,22 +46,14 @@ count-none p (suc n) h = rw (h n (omega arith)) (count-none p n (λ k l. h k (om
 first-only : (p : ℕ → Bool) (n k : ℕ) → First p n k → first p n ≡ k
 first-only p n k f = ⊎-elim (λ e. rw e (first-none p n (λ i l. f .none i (rw e l)))) (λ l. first-is p k n (f .none) l (f .here l)) (eq-or-lt-of-le (f .within))
 
-module _ (c j : ℕ) where
-  changes-same : (k : ℕ) → isData c (suc (j + k)) ≡ isData c (j + k) → changes c j k ≡ false
+module _ (c j k : ℕ) (t : Bool) where
+  changes-is : isData c (suc (j + k)) ≡ turned t (isData c (j + k)) → changes c j k ≡ t
   unfolding changes
-  changes-same k e = beq-same (isData c (j + k)) (isData c (suc (j + k))) e
+  changes-is e = rw e (beq-turned (isData c (j + k)) t)
 
-  changes-other : (k : ℕ) → isData c (suc (j + k)) ≡ not (isData c (j + k)) → changes c j k ≡ true
+  changes-says : changes c j k ≡ t → isData c (suc (j + k)) ≡ turned t (isData c (j + k))
   unfolding changes
-  changes-other k e = beq-other (isData c (j + k)) (isData c (suc (j + k))) e
-
-  same-changes : (k : ℕ) → changes c j k ≡ false → isData c (suc (j + k)) ≡ isData c (j + k)
-  unfolding changes
-  same-changes k e = same-beq (isData c (j + k)) (isData c (suc (j + k))) e
-
-  other-changes : (k : ℕ) → changes c j k ≡ true → isData c (suc (j + k)) ≡ not (isData c (j + k))
-  unfolding changes
-  other-changes k e = other-beq (isData c (j + k)) (isData c (suc (j + k))) e
+  changes-says e = turned-beq (isData c (j + k)) (isData c (suc (j + k))) ∙ ap (λ (x : Bool). turned x (isData c (j + k))) e
 
 -- ---- a run's end is the first change
 
@@ -78,10 +62,10 @@ ends-first : (c j l : ℕ) → EndsRun c j l → First (changes c j) (places - j
 ends-first c j l e =
     record {
       within = omega (arith, e .from, e .to);
-      none = λ i h. changes-same c j i (e .same (suc (j + i)) (omega arith) (omega arith) ∙ sym (e .same (j + i) (omega arith) (omega arith)));
+      none = λ i h. changes-is c j i false (e .same (suc (j + i)) (omega arith) (omega arith) ∙ sym (e .same (j + i) (omega arith) (omega arith)));
       here = λ h.
           let b : j + (l - j) ≡ l = omega (arith, e .from) in
-          changes-other c j (l - j) (rw b (e .other (omega arith) ∙ ap not (sym (e .same l (e .from) (omega arith)))));
+          changes-is c j (l - j) true (rw b (e .other (omega arith) ∙ ap not (sym (e .same l (e .from) (omega arith)))));
     }
 
 -- ONLY THAT: the last place of a longest stretch from j on is j's
@@ -92,16 +76,24 @@ ends-last c j l e = rw (first-only (changes c j) (places - j) (l - j) (ends-firs
 -- up to the first change all are of j's kind
 alike : (c j n : ℕ) → First (changes c j) (places - j) n → (k : ℕ) → k ≤ n → isData c (j + k) ≡ isData c j
 alike c j n f zero h = rw add-zero
-alike c j n f (suc k) h = rw add-suc (same-changes c j k (f .none k h) ∙ alike c j n f k (omega arith))
+alike c j n f (suc k) h = rw add-suc (changes-says c j k false (f .none k h) ∙ alike c j n f k (omega arith))
+
+-- a run, from what its places say, counted from j
+pub ends-by : (c j n : ℕ) (b : Bool) → j + n ≤ places → ((k : ℕ) → k ≤ n → isData c (j + k) ≡ b) → (j + n < places → isData c (suc (j + n)) ≡ not b)
+    → EndsRun c j (j + n)
+ends-by c j n b h all behind =
+    let here : isData c j ≡ b = rw add-zero at (all 0 (omega arith)) in
+    record {
+      from = omega arith;
+      to = h;
+      same = λ k a l. let e : j + (k - j) ≡ k = omega arith in ap (isData c) (sym e) ∙ all (k - j) (omega arith) ∙ sym here;
+      other = λ l. behind l ∙ ap not (sym here);
+    }
 
 first-ends : (c j n : ℕ) → j ≤ places → First (changes c j) (places - j) n → EndsRun c j (j + n)
 first-ends c j n h f =
-    record {
-      from = omega arith;
-      to = omega (arith, f .within);
-      same = λ k a b. let e : j + (k - j) ≡ k = omega arith in ap (isData c) (sym e) ∙ alike c j n f (k - j) (omega arith);
-      other = λ l. other-changes c j n (f .here (omega arith)) ∙ ap not (alike c j n f n (omega arith));
-    }
+    ends-by c j n (isData c j) (omega (arith, f .within)) (alike c j n f)
+    (λ l. changes-says c j n true (f .here (omega arith)) ∙ ap not (alike c j n f n (omega arith)))
 
 -- A RUN IS A LONGEST STRETCH: from j to the last place of its run all are of j's kind, and the place behind is not
 pub last-ends : (c j : ℕ) → j ≤ places → EndsRun c j (lastOfRun c j)

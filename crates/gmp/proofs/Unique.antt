@@ -21,7 +21,8 @@ same-kind Data Data e = refl
 same-kind Stuff Data e = absurd (omega arith)
 same-kind Data Stuff e = absurd (omega arith)
 
-same-run : (n m l k : ℕ) (a b : Kind) → n ≡ m → a ≡ b → l ≡ k → _≡_ {A = Run} (record { number = n; kind = a; last = l }) (record { number = m; kind = b; last = k })
+same-run : (n m l k : ℕ) (a b : Kind) → n ≡ m → a ≡ b → l ≡ k
+    → _≡_ {A = Run} (record { number = n; kind = a; last = l }) (record { number = m; kind = b; last = k })
 same-run n m l k a b p q r = rw (p, q, r)
 
 -- so what is told of a run tells the run

@@ -53,7 +53,8 @@ module _ (s : List ℕ) (on : ℕ → Bool) (at : ℕ → ℕ) (p : ℕ) where
 -- what `fill_places` leaves, from what it asked
 pub window-pair : (c f n : ℕ) (g : List ℕ) (p : ℕ) {x y z l : ℕ} {out : List ℕ} → Window c f n → p < n / 2
     → x ≡ dataIn c f (2 * p) → y ≡ dataIn c f (2 * p + 1) → z ≡ dataIn c f (2 * p + 2) → l ≡ pairBytes
-    → out ≡ pack l (pairBit g (ltb x y) (groupBits * x) (ltb y z) (groupBits * y)) → out ≡ tabulate pairBytes (λ k. byteOf (windowBit c f g) (pairBytes * p + k))
+    → out ≡ pack l (pairBit g (ltb x y) (groupBits * x) (ltb y z) (groupBits * y))
+    → out ≡ tabulate pairBytes (λ k. byteOf (windowBit c f g) (pairBytes * p + k))
 unfolding windowBit
 window-pair c f n g p {x} {y} {z} w h ex ey ez el e =
     let is : (m : ℕ) → m ≤ n → dataIn c f m ≡ dataFrom c f m = λ m l. data-inside c f m (stretch-of c f n m w l) in
@@ -66,8 +67,10 @@ window-pair c f n g p {x} {y} {z} w h ex ey ez el e =
     e ∙ rw el (part g (λ m. isData c (f + m)) (dataFrom c f) p pairBytes (omega arith) first fx second fy)
 
 -- what `fill_two` leaves, from what it asked
-pub groups-pair : (c f n : ℕ) (w : List ℕ) (p l : ℕ) {d x y : ℕ} {out : List ℕ} → Window c f n → d ≡ dataIn c f n → x ≡ groupPlace c f n (2 * p) → y ≡ groupPlace c f n (2 * p + 1) → l ≤ pairBytes
-    → out ≡ pack l (pairBit w (ltb (2 * p) d) (groupBits * x) (ltb (2 * p + 1) d) (groupBits * y)) → out ≡ tabulate l (λ k. byteOf (groupsBit c f n w) (pairBytes * p + k))
+pub groups-pair : (c f n : ℕ) (w : List ℕ) (p l : ℕ) {d x y : ℕ} {out : List ℕ} → Window c f n → d ≡ dataIn c f n
+    → x ≡ groupPlace c f n (2 * p) → y ≡ groupPlace c f n (2 * p + 1) → l ≤ pairBytes
+    → out ≡ pack l (pairBit w (ltb (2 * p) d) (groupBits * x) (ltb (2 * p + 1) d) (groupBits * y))
+    → out ≡ tabulate l (λ k. byteOf (groupsBit c f n w) (pairBytes * p + k))
 unfolding groupsBit
 groups-pair c f n w p l v id ex ey h e =
     let ed = id ∙ data-window c f n v in

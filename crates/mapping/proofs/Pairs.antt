@@ -14,7 +14,7 @@ use Rattle.bits.proofs.Packing.{bitOf-lt}
 use Rattle.sizes.specs.Sizes.{groupBits}
 use Rattle.mapping.specs.Steps.{piece, pairBit}
 
-piece-lt : (s : List ℕ) (on : Bool) → Bits (piece s on)
+pub piece-lt : (s : List ℕ) (on : Bool) → Bits (piece s on)
 piece-lt s true i = bitOf-lt 8 s i
 piece-lt s false i = omega arith
 
@@ -63,7 +63,8 @@ module _ (s : List ℕ) (on : Bool) (a : ℕ) (on′ : Bool) (b : ℕ) where
   front : (f : ℕ → ℕ) (i x : ℕ) → Bits f → x ≡ num 8 f i → x / 16 ≡ num 4 f i
   front f i x h e = ap (λ (y : ℕ). y / 16) e ∙ num-front 4 4 f i h
 
-  pub pair-middle : (k : ℕ) {x y : ℕ} → x ≡ num 8 (piece s on) (a + 1024) → y ≡ num 8 (piece s on′) b → 128 ≤ k → k ≤ 128 → x / 16 * 16 + y / 16 ≡ byteOf (pairBit s on a on′ b) k
+  pub pair-middle : (k : ℕ) {x y : ℕ} → x ≡ num 8 (piece s on) (a + 1024) → y ≡ num 8 (piece s on′) b → 128 ≤ k → k ≤ 128
+      → x / 16 * 16 + y / 16 ≡ byteOf (pairBit s on a on′ b) k
   pair-middle k {x} {y} e e′ h l =
       let p : 8 * k ≡ 1024 = omega arith in
       let z : b + 0 ≡ b = omega arith in
@@ -79,7 +80,8 @@ pack-part m a P B h =
     (λ j i. let e : 8 * a + (8 * k + j) ≡ 8 * (a + k) + j = omega arith in h (8 * k + j) (omega arith) ∙ ap B e))
 
 -- a turn of a loop that lends the bytes from a up to e of a buffer, and gets the bytes of f back there
-pub filled-part : (m e : ℕ) {a : ℕ} {f : ℕ → ℕ} {d out ys : List ℕ} → Filled a f d out → a + m ≡ e → e ≤ length d → ys ≡ tabulate m (λ k. f (a + k)) → Filled e f d (putMid a (e - a) out ys)
+pub filled-part : (m e : ℕ) {a : ℕ} {f : ℕ → ℕ} {d out ys : List ℕ} → Filled a f d out → a + m ≡ e → e ≤ length d
+    → ys ≡ tabulate m (λ k. f (a + k)) → Filled e f d (putMid a (e - a) out ys)
 filled-part m e {a} {f} {d} {out} {ys} h p l q =
     let k : e - a ≡ m = omega arith in
     let r : ys ≡ tabulate (e - a) (λ j. f (a + j)) = rw k q in

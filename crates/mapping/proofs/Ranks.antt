@@ -1,13 +1,14 @@
 -- Where data group q of a window stands: the place by one division, and what stands there. Assumes nothing.
 use Prim.Native.Nat.{ℕ, zero, suc, _+_, _-_, _*_, _/_, _≤_, _<_}
-use mathlib.Core.Bool.{Bool, true, false, cond}
-use mathlib.Core.Path.{_≡_, refl, sym, ap, _∙_}
-use native.Mathlib.Nat.{le-div-iff-mul-le, div-lt-iff-lt-mul, lt-of-not-le, mul-zero}
-use native.Mathlib.Decide.{decLe}
+use mathlib.Core.Bool.{true, false}
+use mathlib.Core.Path.{_≡_, sym, ap, _∙_}
+use native.Mathlib.Nat.{le-div-iff-mul-le, div-lt-iff-lt-mul, mul-zero}
+use native.Mathlib.Numerals.{add-one}
 use native.Mathlib.Omega.{arith}
 use borrow.Author.Tests.{lt-ltb, le-ltb, ltb-true, ltb-false}
 use lib.Dec.{ltb}
 use Rattle.bits.specs.Loops.{first}
+use Rattle.bits.proofs.Common.{by-bound}
 use Rattle.bits.proofs.LoopLaws.{First, first-holds, first-is, first-none}
 use Rattle.gmp.specs.Places.{isData, dataFrom, dataIn}
 use Rattle.windows.specs.Windows.{Window}
@@ -17,22 +18,25 @@ use Rattle.gmp.proofs.Counts.{before-product}
 use Rattle.windows.proofs.Allowed.{stretch-of}
 use Rattle.windows.proofs.Judging.{data-window}
 use Rattle.sizes.specs.Sizes.{places}
-use Rattle.gmp.proofs.Floor.{before, data-split, data-le, data-more, data-mono}
+use Rattle.gmp.proofs.Floor.{before, data-split, data-le, data-more, data-grows, data-mono}
 
 -- ---- a quotient rounded up
 
-ceil-le : (x y c : ℕ) → 0 < c → x ≤ y * c → (x + (c - 1)) / c ≤ y
-ceil-le x y c p h =
-    let e : suc y * c ≡ y * c + c = omega arith in
-    let l : x + (c - 1) < suc y * c = omega arith in
-    let m : (x + (c - 1)) / c < suc y = div-lt-iff-lt-mul p .1 l in
-    omega arith
+module _ (x y c : ℕ) (p : 0 < c) where
+  next : suc y * c ≡ y * c + c
+  next = omega arith
 
-ceil-gt : (x y c : ℕ) → 0 < c → y * c < x → y < (x + (c - 1)) / c
-ceil-gt x y c p h =
-    let e : suc y * c ≡ y * c + c = omega arith in
-    let l : suc y * c ≤ x + (c - 1) = omega arith in
-    le-div-iff-mul-le p .1 l
+  ceil-le : x ≤ y * c → (x + (c - 1)) / c ≤ y
+  ceil-le h = let m : (x + (c - 1)) / c < suc y = div-lt-iff-lt-mul p .1 (omega (arith, next)) in omega arith
+
+  le-ceil : (x + (c - 1)) / c ≤ y → x ≤ y * c
+  le-ceil h = let m : x + (c - 1) < suc y * c = div-lt-iff-lt-mul p .0 (omega arith) in omega (arith, next)
+
+  ceil-gt : y * c < x → y < (x + (c - 1)) / c
+  ceil-gt h = le-div-iff-mul-le p .1 (omega (arith, next))
+
+  gt-ceil : y < (x + (c - 1)) / c → y * c < x
+  gt-ceil h = omega (arith, next, le-div-iff-mul-le p .0 h)
 
 -- ---- the place
 
@@ -49,31 +53,23 @@ module _ (c f n q : ℕ) (w : Window c f n) (some : q < dataFrom c f n) where
   from = omega (arith, w .odd)
 
   pub count-pos : 0 < c
-  count-pos = by c refl
+  count-pos = by-bound 1 c none (λ l. l)
     where
-      by : (k : ℕ) → c ≡ k → 0 < k
-      by zero e =
+      none : c < 1 → 0 < c
+      none l =
+          let e : c ≡ 0 = omega arith in
           let z : (f - 1 + n) * c ≡ 0 = rw e (mul-zero (f - 1 + n)) in
           absurd (omega (arith, data-split c f n (w .count) from))
-      by (suc k) e = omega arith
 
   -- the data places up to place f + m
   upto-place : (m : ℕ) → before c f + dataFrom c f (suc m) ≡ (f + m) * c / places
   upto-place m = let e : f - 1 + suc m ≡ f + m = omega (arith, from) in data-split c f (suc m) (w .count) from ∙ ap (λ (k : ℕ). k * c / places) e
 
   enough : (m : ℕ) → x ≤ f + m → ltb q (dataFrom c f (suc m)) ≡ true
-  enough m h = by (decLe ((before c f + q + 1) * places) ((f + m) * c))
-    where
-      by : Dec ((before c f + q + 1) * places ≤ (f + m) * c) → ltb q (dataFrom c f (suc m)) ≡ true
-      by (yes l) = lt-ltb q (dataFrom c f (suc m)) (omega (arith, upto-place m))
-      by (no k) = absurd (omega (arith, ceil-gt ((before c f + q + 1) * places) (f + m) c count-pos (lt-of-not-le k)))
+  enough m h = lt-ltb q (dataFrom c f (suc m)) (omega (arith, upto-place m, le-ceil ((before c f + q + 1) * places) (f + m) c count-pos h))
 
   too-few : (m : ℕ) → f + m < x → ltb q (dataFrom c f (suc m)) ≡ false
-  too-few m h = by (decLe ((before c f + q + 1) * places) ((f + m) * c))
-    where
-      by : Dec ((before c f + q + 1) * places ≤ (f + m) * c) → ltb q (dataFrom c f (suc m)) ≡ false
-      by (yes l) = absurd (omega (arith, ceil-le ((before c f + q + 1) * places) (f + m) c count-pos l))
-      by (no k) = le-ltb q (dataFrom c f (suc m)) (omega (arith, upto-place m, lt-of-not-le k))
+  too-few m h = le-ltb q (dataFrom c f (suc m)) (omega (arith, upto-place m, gt-ceil ((before c f + q + 1) * places) (f + m) c count-pos h))
 
   after : f ≤ x
   after = let l : (f - 1) * c < (before c f + q + 1) * places = omega arith in omega (arith, ceil-gt ((before c f + q + 1) * places) (f - 1) c count-pos l)
@@ -124,24 +120,25 @@ pub record Stands (c f n q m : ℕ) : Type 0 where
   pub is-data : isData c (f + m) ≡ true
   pub rank : dataFrom c f m ≡ q
 
--- the first with which more than q have come
-stands-by : (c f n q m : ℕ) → q < dataFrom c f n → First (λ k. ltb q (dataFrom c f (suc k))) n m → (b : Bool) → isData c (f + m) ≡ b → dataFrom c f (suc m) ≡ cond b (suc (dataFrom c f m)) (dataFrom c f m) → dataFrom c f m ≤ q → m < n → Stands c f n q m
-stands-by c f n q m h t true e s l i = record { inside = i; is-data = e; rank = omega (arith, ltb-true q (dataFrom c f (suc m)) (t .here i)) }
-stands-by c f n q m h t false e s l i = absurd (omega (arith, ltb-true q (dataFrom c f (suc m)) (t .here i)))
+module _ (c f n q : ℕ) (some : q < dataFrom c f n) where
+  abbrev here : ℕ
+  here = groupPlace c f n q
 
--- up to a place that was passed there are no more than q
-few-before : (c f n q m : ℕ) → First (λ k. ltb q (dataFrom c f (suc k))) n m → dataFrom c f m ≤ q
-few-before c f n q zero t = omega (arith, data-le c f 0)
-few-before c f n q (suc m) t = ltb-false q (dataFrom c f (suc m)) (t .none m (omega arith))
+  found : First (λ k. ltb q (dataFrom c f (suc k))) n here
+  unfolding groupPlace
+  found = first-holds (λ k. ltb q (dataFrom c f (suc k))) n
 
-pub stands : (c f n q : ℕ) → q < dataFrom c f n → Stands c f n q (groupPlace c f n q)
-unfolding groupPlace
-stands c f n q h =
-    let t = first-holds (λ k. ltb q (dataFrom c f (suc k))) n in
-    let m = first (λ k. ltb q (dataFrom c f (suc k))) n in
-    let l = few-before c f n q m t in
-    stands-by c f n q m h t (isData c (f + m)) refl (data-more c f m) l (by m t l (decLe n m))
-  where
-    by : (m : ℕ) → First (λ k. ltb q (dataFrom c f (suc k))) n m → dataFrom c f m ≤ q → Dec (n ≤ m) → m < n
-    by m t l (no k) = lt-of-not-le k
-    by m t l (yes k) = absurd (omega (arith, data-mono c f n m k))
+  -- up to a place that was passed there are no more than q
+  few : (k : ℕ) → k ≤ here → dataFrom c f k ≤ q
+  few zero l = omega (arith, data-le c f 0)
+  few (suc k) l = ltb-false q (dataFrom c f (suc k)) (found .none k l)
+
+  in-window : here < n
+  in-window = by-bound n here (λ l. l) (λ l. absurd (omega (arith, few n l)))
+
+  pub stands : Stands c f n q here
+  stands =
+      let low = few here (omega arith) in
+      let more = ltb-true q (dataFrom c f (suc here)) (found .here in-window) in
+      let e : isData c (f + here) ≡ true = sym (data-grows c f here) ∙ rw add-one (lt-ltb (dataFrom c f here) (dataFrom c f (suc here)) (omega arith)) in
+      record { inside = in-window; is-data = e; rank = omega (arith, rw e at (data-more c f here)) }

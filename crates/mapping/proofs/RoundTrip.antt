@@ -1,9 +1,10 @@
 -- Unmapping what was mapped gives the groups back: the law of specs/RoundTrip.antt. Assumes nothing.
-use Prim.Native.Nat.{ℕ, zero, suc, _+_, _-_, _*_, _/_, _%_, _^_, _≤_, _<_}
+use Prim.Native.Nat.{ℕ, _+_, _-_, _*_, _/_, _%_, _^_, _≤_, _<_}
 use mathlib.Core.Bool.{Bool, true, false, cond, not}
 use mathlib.Core.Path.{_≡_, refl, sym, ap, _∙_}
 use mathlib.Core.List.{List}
 use native.Mathlib.Nat.{zero-div}
+use native.Mathlib.Decide.{ℕ-discrete}
 use native.Mathlib.Omega.{arith}
 use borrow.Author.Tests.{ltb-true, ltb-false, eq-eqb, ne-eqb, eqb-true, not-false}
 use lib.Dec.{ltb, eqb}
@@ -21,17 +22,14 @@ use Rattle.windows.specs.Windows.{Window, spareSet}
 use Rattle.mapping.specs.Groups.{windowBit, groupPlace, groupsBit}
 use Rattle.mapping.specs.RoundTrip.{backAnswer, mapUnmapAnswer, mapUnmapLeaves, MapUnmap, refused-first, went-on}
 use Rattle.windows.specs.Answers.{mapAnswer, unmapRows, unmapAnswer}
+use Rattle.mapping.proofs.Pairs.{piece-lt}
 use Rattle.mapping.proofs.Ranks.{Stands, stands}
-use Rattle.sizes.specs.Sizes.{groupBits, groupBytes, windowBytes}
+use Rattle.sizes.specs.Sizes.{groupBits, pairBytes, groupBytes, windowBytes}
 use Rattle.windows.proofs.Judging.{MapTaken, map-taken}
 
 window-lt : (c f : ℕ) (g : List ℕ) → Bits (windowBit c f g)
 unfolding windowBit
-window-lt c f g i = by (isData c (f + i / groupBits))
-  where
-    by : (b : Bool) → cond b (bitAt g (groupBits * dataFrom c f (i / groupBits) + i % groupBits)) 0 < 2
-    by true = bitOf-lt 8 g (groupBits * dataFrom c f (i / groupBits) + i % groupBits)
-    by false = omega arith
+window-lt c f g i = piece-lt g (isData c (f + i / groupBits)) (groupBits * dataFrom c f (i / groupBits) + i % groupBits)
 
 -- bit r of data group q, at its place in the window
 at-place : (c f n : ℕ) (g : List ℕ) (q r m : ℕ) → r < groupBits → Stands c f n q m → windowBit c f g (groupBits * m + r) ≡ bitAt g (groupBits * q + r)
@@ -54,37 +52,26 @@ spare-zero d g j s o h =
     let z : x ≡ 0 = eqb-true x 0 (not-false (eqb x 0) t) in
     sym (digit-num 4 (bitAt g) (groupBits * d) j (bitOf-lt 8 g) h) ∙ ap (λ (y : ℕ). digit 4 y j) z ∙ digit-zero 4 j
 
--- an even number of groups fills its bytes
-even-bytes : (k : ℕ) → 8 * groupBytes (2 * k) ≡ groupBits * (2 * k)
-even-bytes k = omega arith
+-- an even number of places fills its bytes; an odd number of groups leaves four bits
+half : (x q r : ℕ) → x ≡ 2 * q + r → r < 2 → x / 2 ≡ q
+half x q r e h = omega arith
 
--- so does an even number of places
 window-bytes : (n : ℕ) → n % 2 ≡ 0 → 8 * windowBytes n ≡ groupBits * n
-window-bytes n h = let e : n ≡ 2 * (n / 2) = omega arith in ap (λ (x : ℕ). 8 * windowBytes x) e ∙ at (n / 2) ∙ ap (λ (x : ℕ). groupBits * x) (sym e)
-  where
-    at : (k : ℕ) → 8 * windowBytes (2 * k) ≡ groupBits * (2 * k)
-    at k = omega arith
+window-bytes n h = omega (arith, half (pairBytes * n) (pairBytes * (n / 2)) 0 (omega arith) (omega arith))
 
--- an odd number of groups leaves four bits
 odd-bytes : (d : ℕ) → d % 2 ≡ 1 → 8 * groupBytes d ≡ groupBits * d + 4
-odd-bytes d h = let e : d ≡ 2 * (d / 2) + 1 = omega arith in ap (λ (x : ℕ). 8 * groupBytes x) e ∙ at (d / 2) ∙ ap (λ (x : ℕ). groupBits * x + 4) (sym e)
-  where
-    at : (k : ℕ) → 8 * groupBytes (2 * k + 1) ≡ groupBits * (2 * k + 1) + 4
-    at k = omega arith
+odd-bytes d h = omega (arith, half (pairBytes * d + 1) (pairBytes * (d / 2) + 129) 0 (omega arith) (omega arith))
 
 from-quotient : (d i : ℕ) → d ≤ i / groupBits → groupBits * d ≤ i
 from-quotient d i h = omega arith
 
 -- a bit behind the last group and within the bytes: there is an odd number of groups
 odd-behind : (d i : ℕ) → groupBits * d ≤ i → i < 8 * groupBytes d → d % 2 ≡ 1
-odd-behind d i l h = by (d % 2) (omega arith) (omega arith)
+odd-behind d i l h = by (ℕ-discrete (d % 2) 1)
   where
-    by : (e : ℕ) → d ≡ 2 * (d / 2) + e → e < 2 → e ≡ 1
-    by zero p q =
-        let k : d ≡ 2 * (d / 2) = omega arith in
-        absurd (omega (arith, ap (λ (x : ℕ). 8 * groupBytes x) k, even-bytes (d / 2)))
-    by (suc zero) p q = refl
-    by (suc (suc e)) p q = absurd (omega arith)
+    by : Dec (d % 2 ≡ 1) → d % 2 ≡ 1
+    by (yes e) = e
+    by (no n) = absurd (omega (arith, half (pairBytes * d + 1) (pairBytes * (d / 2)) 1 (omega arith) (omega arith)))
 
 -- bit by bit, what was mapped is what unmapping finds
 module _ (c f n : ℕ) (g : List ℕ) (w : Window c f n) (spare : spareSet (dataFrom c f n) g ≡ false) where
@@ -95,7 +82,8 @@ module _ (c f n : ℕ) (g : List ℕ) (w : Window c f n) (spare : spareSet (data
   unfolding groupsBit
   back-bit i h = by (ltb (i / groupBits) (dataFrom c f n)) refl
     where
-      by : (b : Bool) → ltb (i / groupBits) (dataFrom c f n) ≡ b → cond b (bitAt out (groupBits * groupPlace c f n (i / groupBits) + i % groupBits)) 0 ≡ bitAt g i
+      by : (b : Bool) → ltb (i / groupBits) (dataFrom c f n) ≡ b
+          → cond b (bitAt out (groupBits * groupPlace c f n (i / groupBits) + i % groupBits)) 0 ≡ bitAt g i
       by true e =
           let q = i / groupBits in
           let r = i % groupBits in
@@ -116,7 +104,8 @@ module _ (c f n : ℕ) (g : List ℕ) (w : Window c f n) (spare : spareSet (data
       packs-ext 8 (groupBytes (dataFrom c f n)) (groupsBit c f n out) (bitAt g) back-bit ∙ ap (λ (k : ℕ). pack k (bitAt g)) (sym l) ∙ packs-bitOf 8 g b
 
 -- what unmapping answers to a window that was mapped
-back-answer : (c f n : ℕ) (g b out : List ℕ) {l : ℕ} → MapTaken c f n g l → length out ≡ windowBytes n → unmapAnswer c f n (length out) (length b) ≡ backAnswer c f n g b
+back-answer : (c f n : ℕ) (g b out : List ℕ) {l : ℕ} → MapTaken c f n g l → length out ≡ windowBytes n
+    → unmapAnswer c f n (length out) (length b) ≡ backAnswer c f n g b
 unfolding unmapAnswer backAnswer inTurn rowThen faultsThen
 back-answer c f n g b out t long =
     rw (in-turn (unmapRows c f n (length out) (length b)) (dataFrom c f n), t .numbers, length-right long, t .groups-length)
@@ -126,7 +115,8 @@ module _ (c f n : ℕ) (g w b : List ℕ) (bytes : Bytes g) where
   abbrev mapping : Answer
   mapping = mapAnswer c f n g (length w)
 
-  pub round-trip : {r : Answer} {left : List ℕ × List ℕ} → MapUnmap c f n g w b r left → Outcome (mapUnmapAnswer c f n g w b) (mapUnmapLeaves c f n g w b) r left
+  pub round-trip : {r : Answer} {left : List ℕ × List ℕ} → MapUnmap c f n g w b r left
+      → Outcome (mapUnmapAnswer c f n g w b) (mapUnmapLeaves c f n g w b) r left
   unfolding mapUnmapAnswer mapUnmapLeaves written
   round-trip {r} (refused-first m h) =
       let e : eqb (mapping .number) allDone ≡ false = ne-eqb (mapping .number) allDone (λ z. h (ap (λ (x : Answer). x .number) (m .told) ∙ z)) in

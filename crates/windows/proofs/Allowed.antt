@@ -2,7 +2,8 @@
 -- Assumes nothing.
 use Prim.Native.Nat.{ℕ, _+_, _-_, _%_, _≤_}
 use mathlib.Core.Bool.{Bool, false}
-use mathlib.Core.Path.{_≡_, sym, _∙_}
+use mathlib.Core.Path.{_≡_, refl, sym, _∙_}
+use mathlib.Core.Logic.{_↔_}
 use native.Mathlib.Omega.{arith}
 use borrow.Author.Tests.{le-ltb, ne-eqb}
 use Rattle.gmp.specs.Steps.{Stretch}
@@ -29,7 +30,10 @@ module _ (c f n : ℕ) where
       let e : outsideWindow c f n ≡ false = sym p ∙ q in
       search (windows-all, not-even, not-odd, none-holds)
 
-  pub in-window : Window c f n → outsideWindow c f n ≡ false
+  in-window : Window c f n → outsideWindow c f n ≡ false
   in-window w =
       rw (ne-eqb (f % 2) 0 (λ z. omega (arith, w .odd)), ne-eqb (n % 2) 1 (λ z. omega (arith, w .even)), le-ltb n 2 (w .two))
       (not-outside-stretch c f n (stretch-of c f n n w (omega arith)))
+
+  pub windows-exactly : (outsideWindow c f n ≡ false) ↔ Window c f n
+  windows-exactly = (window-in refl, in-window)

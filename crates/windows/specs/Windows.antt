@@ -1,4 +1,5 @@
--- Document 01, "GMP places": what a window of n places from place f on is, and the bytes that it and its data groups take. Assumes nothing: these are definitions.
+-- Document 01, "GMP places": what a window of n places from place f on is, and the spare bits of its data groups. Assumes nothing: these are
+-- definitions.
 use Prim.Native.Nat.{ℕ, _+_, _-_, _*_, _%_, _≤_}
 use mathlib.Core.Bool.{Bool, not, _&&_, _||_}
 use mathlib.Core.Path.{_≡_}

@@ -1,5 +1,6 @@
 -- `decimal::next_value` meets its contract: each return by the tests that led there. Assumes nothing.
-use borrow.Author.Tests.{lt-ltb, le-ltb, le-leb, lt-leb}
+use borrow.Author.Tests.{le-ltb, le-leb}
+use Rattle.bits.proofs.LoopLaws.{tests}
 use native.Mathlib.Omega.{arith}
 use Rattle.decimal.specs.Steps.{nextValue}
 use borrow.Author.Needs.{needs}
@@ -8,15 +9,15 @@ use Rattle.decimal.proofs.next_value.Tie as tie
 
 returns : tie.Need-returns
 unfolding nextValue
-returns c = simp (lt-ltb _ _ (c .if1 .taken))
+returns c = search tests
 
 returns-2 : tie.Need-returns-2
 unfolding nextValue
-returns-2 c = simp (le-ltb _ _ (c .before .if1 .left), lt-leb _ _ (c .if2 .taken))
+returns-2 c = search tests
 
 returns-3 : tie.Need-returns-3
 unfolding nextValue
-returns-3 c = simp (le-ltb _ _ (c .before .before .if1 .left), le-leb _ _ (c .before .if2 .left), lt-leb _ _ (c .if3 .taken))
+returns-3 c = search tests
 
 mul-next : tie.Need-mul-next
 mul-next c = search needs
@@ -29,11 +30,15 @@ add-next c = search needs
 
 returns-4 : tie.Need-returns-4
 unfolding nextValue
-returns-4 c = simp (le-ltb _ _ (c .before .before .before .if1 .left), le-leb _ _ (c .before .before .if2 .left), le-leb _ _ (c .before .if3 .left)) (omega arith)
+returns-4 c =
+    simp (le-ltb _ _ (c .before .before .before .if1 .left), le-leb _ _ (c .before .before .if2 .left), le-leb _ _ (c .before .if3 .left))
+    (omega arith)
 
 returns-5 : tie.Need-returns-5
 unfolding nextValue
-returns-5 c = simp (le-ltb _ _ (c .before .before .before .if1 .left), le-leb _ _ (c .before .before .if2 .left), le-leb _ _ (c .before .if3 .left)) (omega arith)
+returns-5 c =
+    simp (le-ltb _ _ (c .before .before .before .if1 .left), le-leb _ _ (c .before .before .if2 .left), le-leb _ _ (c .before .if3 .left))
+    (omega arith)
 
 pub next-value-spec : {M : Type 1} → statement M
 next-value-spec =

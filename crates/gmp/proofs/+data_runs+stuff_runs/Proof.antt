@@ -50,14 +50,11 @@ data-runs-data-last-requires : (t : ℕ) → data-runs-lts.Need-data-last-requir
 data-runs-data-last-requires t c κs = c .pre .1
 
 data-runs-returns : (t : ℕ) → data-runs-lts.Need-returns (data-runs-calls t) (data-runs-at t) data-runs.Post
-data-runs-returns t c =
-    let s = c .before .before in
-    ended (s .args .c) (s .args .j) (c .before .data-last .result) (s .pre .1 .0) (c .before .data-last .ensures) (c .if1 .taken)
+data-runs-returns t c = search ended
 
-data-runs-handed : (t : ℕ) (k : data-runs-lts.Else1 (data-runs-calls t) (data-runs-at t) data-runs.Post) → Handed (k .before .before .args .c) (k .before .before .args .j) (k .before .data-last .result)
-data-runs-handed t k =
-    let s = k .before .before in
-    handed (s .args .c) (s .args .j) (k .before .data-last .result) (s .pre .1 .0) (k .before .data-last .ensures) (k .if1 .left)
+data-runs-handed : (t : ℕ) (k : data-runs-lts.Else1 (data-runs-calls t) (data-runs-at t) data-runs.Post)
+    → Handed (k .before .before .args .c) (k .before .before .args .j) (k .before .data-last .result)
+data-runs-handed t k = search handed
 
 data-runs-add-stuff-runs : (t : ℕ) → data-runs-lts.Need-add-stuff-runs (data-runs-calls t) (data-runs-at t) data-runs.Post
 data-runs-add-stuff-runs t c = omega (arith, data-runs-handed t c .behind .to)
@@ -77,14 +74,11 @@ stuff-runs-stuff-last-requires : (t : ℕ) → stuff-runs-lts.Need-stuff-last-re
 stuff-runs-stuff-last-requires t c κs = c .pre .1
 
 stuff-runs-returns : (t : ℕ) → stuff-runs-lts.Need-returns (stuff-runs-calls t) (stuff-runs-at t) stuff-runs.Post
-stuff-runs-returns t c =
-    let s = c .before .before in
-    ended (s .args .c) (s .args .j) (c .before .stuff-last .result) (s .pre .1 .0) (c .before .stuff-last .ensures) (c .if1 .taken)
+stuff-runs-returns t c = search ended
 
-stuff-runs-handed : (t : ℕ) (k : stuff-runs-lts.Else1 (stuff-runs-calls t) (stuff-runs-at t) stuff-runs.Post) → Handed (k .before .before .args .c) (k .before .before .args .j) (k .before .stuff-last .result)
-stuff-runs-handed t k =
-    let s = k .before .before in
-    handed (s .args .c) (s .args .j) (k .before .stuff-last .result) (s .pre .1 .0) (k .before .stuff-last .ensures) (k .if1 .left)
+stuff-runs-handed : (t : ℕ) (k : stuff-runs-lts.Else1 (stuff-runs-calls t) (stuff-runs-at t) stuff-runs.Post)
+    → Handed (k .before .before .args .c) (k .before .before .args .j) (k .before .stuff-last .result)
+stuff-runs-handed t k = search handed
 
 stuff-runs-add-data-runs : (t : ℕ) → stuff-runs-lts.Need-add-data-runs (stuff-runs-calls t) (stuff-runs-at t) stuff-runs.Post
 stuff-runs-add-data-runs t c = omega (arith, stuff-runs-handed t c .behind .to)
@@ -103,5 +97,7 @@ stuff-runs-returns-2 t c = ap (λ (x : ℕ). 1 + x) (c .data-runs .ensures) ∙ 
 pub +data-runs+stuff-runs-spec : {M : Type 1} → statement M
 +data-runs+stuff-runs-spec =
     close μ-data-runs μ-stuff-runs
-    (λ t. data-runs-lts.spec (data-runs-calls t) (data-runs-at t) data-runs.Post (data-runs-data-last-requires t) (data-runs-returns t) (data-runs-add-stuff-runs t) (data-runs-stuff-runs-requires t) (data-runs-add-result t) (data-runs-returns-2 t))
-    (λ t. stuff-runs-lts.spec (stuff-runs-calls t) (stuff-runs-at t) stuff-runs.Post (stuff-runs-stuff-last-requires t) (stuff-runs-returns t) (stuff-runs-add-data-runs t) (stuff-runs-data-runs-requires t) (stuff-runs-add-result t) (stuff-runs-returns-2 t))
+    (λ t. data-runs-lts.spec (data-runs-calls t) (data-runs-at t) data-runs.Post (data-runs-data-last-requires t) (data-runs-returns t)
+    (data-runs-add-stuff-runs t) (data-runs-stuff-runs-requires t) (data-runs-add-result t) (data-runs-returns-2 t))
+    (λ t. stuff-runs-lts.spec (stuff-runs-calls t) (stuff-runs-at t) stuff-runs.Post (stuff-runs-stuff-last-requires t) (stuff-runs-returns t)
+    (stuff-runs-add-data-runs t) (stuff-runs-data-runs-requires t) (stuff-runs-add-result t) (stuff-runs-returns-2 t))

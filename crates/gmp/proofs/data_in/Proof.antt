@@ -10,7 +10,8 @@ use Rattle.gmp.proofs.data_in.Reads as reads
 use Rattle.gmp.proofs.data_in.Lts as lts
 use Rattle.gmp.proofs.outside_stretch.Reads as outside-stretch-reads
 
-at : (k : lts.Else1 (outside-stretch-reads.Asked, outside-stretch-reads.Learnt) reads.Pre reads.Post) → Stretch (k .before .before .args .c) (k .before .before .args .f) (k .before .before .args .n)
+at : (k : lts.Else1 (outside-stretch-reads.Asked, outside-stretch-reads.Learnt) reads.Pre reads.Post)
+    → Stretch (k .before .before .args .c) (k .before .before .args .f) (k .before .before .args .n)
 at k = stretch-in _ _ _ (k .before .outside-stretch .ensures) (k .if1 .left)
 
 outside-stretch-requires : tie.Need-outside-stretch-requires

@@ -7,7 +7,7 @@ use Rattle.gmp.proofs.is_data.Statement.{statement}
 use Rattle.gmp.proofs.is_data.Tie as tie
 
 mul-result : tie.Need-mul-result
-mul-result c = omega (arith, product (c .args .c) (c .args .j) (c .pre))
+mul-result c = omega (arith, product _ _ (c .pre))
 
 returns : tie.Need-returns
 unfolding isData

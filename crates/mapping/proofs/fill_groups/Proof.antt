@@ -14,7 +14,8 @@ use Rattle.mapping.proofs.fill_groups.Statement.{statement}
 use Rattle.mapping.proofs.fill_groups.Tie as tie
 
 abbrev Inv-loop : tie.InvT-loop
-Inv-loop c f n window groups₀ d p₀ p-end groups p = Filled (min (pairBytes * p) (length groups₀)) (byteOf (groupsBit c f n window)) groups₀ groups × (p ≤ (d + 1) / 2)
+Inv-loop c f n window groups₀ d p₀ p-end groups p =
+    Filled (min (pairBytes * p) (length groups₀)) (byteOf (groupsBit c f n window)) groups₀ groups × (p ≤ (d + 1) / 2)
 
 abbrev μ-loop : tie.MeasureT-loop
 μ-loop c f n window groups₀ d p₀ p-end groups p = (d + 1) / 2 - p
@@ -62,10 +63,10 @@ loop-again c =
     let t = c .before .before .before .before .before .before .loop in
     let e = c .before .before .before .before .least .result in
     let w = data-window _ _ _ (c .before .before .before .before .before .before .before .before .before .before .pre .0) in
-    let l : length (take (e - pairBytes * t .p) (drop (pairBytes * t .p) (t .groups))) ≡ e - pairBytes * t .p = simp (length-take, length-drop) (omega arith) in (
-      filled-to _ (filled-part _ e (filled-to (pairBytes * t .p) (t .inv .0) (omega arith)) (omega arith) (omega arith) (c .before .before .fill-two .ensures)) (omega arith),
-      omega arith,
-    )
+    let at = pairBytes * t .p in
+    let l : length (take (e - at) (drop at (t .groups))) ≡ e - at = simp (length-take, length-drop) (omega arith) in
+    let before = filled-to at (t .inv .0) (omega arith) in
+    (filled-to _ (filled-part _ e before (omega arith) (omega arith) (c .before .before .fill-two .ensures)) (omega arith), omega arith)
 
 same-length : tie.Need-same-length Inv-loop μ-loop
 same-length c = omega arith

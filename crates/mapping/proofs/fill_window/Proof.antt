@@ -45,10 +45,9 @@ loop-less c = omega arith
 
 loop-again : tie.Need-loop-again Inv-loop μ-loop
 loop-again c =
-    let t = c .before .before .before .before .before .loop in (
-      filled-to (pairBytes * (t .p + 1)) (filled-part pairBytes (pairBytes * t .p + pairBytes) (t .inv .0) (omega arith) (omega arith) (c .before .before .fill-places .ensures)) (omega arith),
-      omega arith,
-    )
+    let t = c .before .before .before .before .before .loop in
+    let more = filled-part pairBytes (pairBytes * t .p + pairBytes) (t .inv .0) (omega arith) (omega arith) (c .before .before .fill-places .ensures) in
+    (filled-to (pairBytes * (t .p + 1)) more (omega arith), omega arith)
 
 same-length : tie.Need-same-length Inv-loop μ-loop
 same-length c = omega arith
