@@ -11,6 +11,7 @@ use Rattle.bits.specs.Bits.{tabulate, num, digit, bitAt, Bits, Bytes}
 use Rattle.bits.proofs.Lists.{is-table, getD-tabulate}
 use Rattle.bits.proofs.Numbers.{num-ext, num-front, num-back, num-digit, num-more, digit-lt}
 use Rattle.bits.proofs.Packing.{bitOf-lt, bitOf-at, num-bitOf}
+use Rattle.sizes.specs.Sizes.{checkBits, wordBytes}
 use Rattle.matrix.specs.Columns.{columns, columnOf}
 use Rattle.matrix.specs.Sums.{sumTo, taken, tailSum, tailOf}
 use Rattle.hamming.specs.Code.{checksOf, elementSum, joined, joinedWord, coded, byteSum}
@@ -21,11 +22,11 @@ use Rattle.hamming.proofs.Words.{checks-joined, joined-low, joined-high
 unfoldable pub byteOfSum : List ℕ → ℕ → ℕ
 byteOfSum w k = byteSum k (getD w k 0)
 
-pub checks-bytes : (w : List ℕ) → sumTo (byteOfSum w) 16 ≡ checksOf w
+pub checks-bytes : (w : List ℕ) → sumTo (byteOfSum w) wordBytes ≡ checksOf w
 unfolding checksOf byteOfSum byteSum
 checks-bytes w =
-    sym (sum-blocks (taken 0 (bitAt w)) 8 16
-    ∙ sum-same (λ k. sumTo (λ j. taken 0 (bitAt w) (8 * k + j)) 8) (byteOfSum w) 16
+    sym (sum-blocks (taken 0 (bitAt w)) 8 wordBytes
+    ∙ sum-same (λ k. sumTo (λ j. taken 0 (bitAt w) (8 * k + j)) 8) (byteOfSum w) wordBytes
     (λ k h. sum-same (λ j. taken 0 (bitAt w) (8 * k + j)) (taken (8 * k) (digit 8 (getD w k 0))) 8
     (λ j l. taken-same 0 (8 * k) (bitAt w) (digit 8 (getD w k 0)) (8 * k + j) j (bitOf-at 8 w k j l) (omega arith))))
 
@@ -45,7 +46,7 @@ word-closed f b = ap (λ (c : ℕ). joinedWord f (tailOf c)) (checks-alone f b)
 
 -- ---- the two bytes that hold the check bits
 
-module _ (e : List ℕ) (p : ℕ) (long : length e ≡ 16) (bytes : Bytes e) (small : p < 512) where
+module _ (e : List ℕ) (p : ℕ) (long : length e ≡ wordBytes) (bytes : Bytes e) (small : p < 512) where
   front-byte : (k : ℕ) → k < 14 → getD e k 0 ≡ num 8 (joined (bitAt e) p) (8 * k)
   front-byte k h =
       sym (num-bitOf 8 e k (bytes k))
@@ -63,10 +64,10 @@ module _ (e : List ℕ) (p : ℕ) (long : length e ≡ 16) (bytes : Bytes e) (sm
 
   last-byte : p % 256 ≡ num 8 (joined (bitAt e) p) 120
   last-byte =
-      ap (λ (x : ℕ). x % 256) (sym (num-digit 9 p small)) ∙ num-back 1 8 (digit 9 p) 0 (digit-lt 9 p)
-      ∙ num-ext 8 (digit 9 p) (joined (bitAt e) p) 1 120 (λ j l. sym (joined-high (bitAt e) p (1 + j)) ∙ ap (joined (bitAt e) p) (omega arith))
+      ap (λ (x : ℕ). x % 256) (sym (num-digit checkBits p small)) ∙ num-back 1 8 (digit checkBits p) 0 (digit-lt checkBits p)
+      ∙ num-ext 8 (digit checkBits p) (joined (bitAt e) p) 1 120 (λ j l. sym (joined-high (bitAt e) p (1 + j)) ∙ ap (joined (bitAt e) p) (omega arith))
 
-  byte-is : (k : ℕ) → k < 16 → Dec (k ≡ 15) → Dec (k ≡ 14)
+  byte-is : (k : ℕ) → k < wordBytes → Dec (k ≡ 15) → Dec (k ≡ 14)
       → getD (set (set e 14 (getD e 14 0 / 2 * 2 + p / 256)) 15 (p % 256)) k 0 ≡ num 8 (joined (bitAt e) p) (8 * k)
   byte-is k h (yes a) d = rw a (getD-set-same (set e 14 (getD e 14 0 / 2 * 2 + p / 256)) 15 (p % 256) 0 (simp length-set (omega arith)) ∙ last-byte)
   byte-is k h (no a) (yes b) =
@@ -80,5 +81,5 @@ module _ (e : List ℕ) (p : ℕ) (long : length e ≡ 16) (bytes : Bytes e) (sm
   -- so setting them joins the nine bits to the 119
   pub join-set : set (set e 14 (getD e 14 0 / 2 * 2 + p / 256)) 15 (p % 256) ≡ joinedWord (bitAt e) p
   join-set =
-      is-table 0 16 (λ k. num 8 (joined (bitAt e) p) (8 * k)) (set (set e 14 (getD e 14 0 / 2 * 2 + p / 256)) 15 (p % 256)) (simp length-set long)
+      is-table 0 wordBytes (λ k. num 8 (joined (bitAt e) p) (8 * k)) (set (set e 14 (getD e 14 0 / 2 * 2 + p / 256)) 15 (p % 256)) (simp length-set long)
       (λ k h. byte-is k h (ℕ-discrete k 15) (ℕ-discrete k 14))

@@ -13,6 +13,7 @@ use lib.ListN.{length}
 use Rattle.bits.proofs.Common.{by-bound, xor-none}
 use Rattle.hamming.specs.declared.Found.the-variants.{Clean, Turned, Beyond}
 use Rattle.hamming.specs.declared.Repaired.{Repaired}
+use Rattle.sizes.specs.Sizes.{wordBits, wordBytes}
 use Rattle.matrix.specs.Columns.{columnOf, positionOf}
 use Rattle.hamming.specs.Code.{checksOf, turn}
 use Rattle.hamming.specs.Repair.{answer, repairAt, repairOf, foundOf}
@@ -26,26 +27,26 @@ pub at-clean : (w : List ℕ) (c i : ℕ) → c ≡ 0 → repairAt w c i ≡ ans
 unfolding repairAt
 at-clean w c i e = rw (eq-eqb c 0 e)
 
-pub at-turned : (w : List ℕ) (c i : ℕ) → (c ≡ 0 → ⊥) → i < 128 → repairAt w c i ≡ answer (turn w i) (Turned i)
+pub at-turned : (w : List ℕ) (c i : ℕ) → (c ≡ 0 → ⊥) → i < wordBits → repairAt w c i ≡ answer (turn w i) (Turned i)
 unfolding repairAt
-at-turned w c i ne h = rw (ne-eqb c 0 ne, lt-ltb i 128 h)
+at-turned w c i ne h = rw (ne-eqb c 0 ne, lt-ltb i wordBits h)
 
-pub at-beyond : (w : List ℕ) (c i : ℕ) → (c ≡ 0 → ⊥) → 128 ≤ i → repairAt w c i ≡ answer w Beyond
+pub at-beyond : (w : List ℕ) (c i : ℕ) → (c ≡ 0 → ⊥) → wordBits ≤ i → repairAt w c i ≡ answer w Beyond
 unfolding repairAt
-at-beyond w c i ne h = rw (ne-eqb c 0 ne, le-ltb i 128 h)
+at-beyond w c i ne h = rw (ne-eqb c 0 ne, le-ltb i wordBits h)
 
 -- so what holds in each case holds of the answer
 pub by-case : (P : Repaired → Type 0) (w : List ℕ) (c i : ℕ)
     → (c ≡ 0 → P (answer w Clean))
-    → ((c ≡ 0 → ⊥) → i < 128 → P (answer (turn w i) (Turned i)))
-    → ((c ≡ 0 → ⊥) → 128 ≤ i → P (answer w Beyond))
+    → ((c ≡ 0 → ⊥) → i < wordBits → P (answer (turn w i) (Turned i)))
+    → ((c ≡ 0 → ⊥) → wordBits ≤ i → P (answer w Beyond))
     → P (repairAt w c i)
 by-case P w c i p q r = at-zero (ℕ-discrete c 0)
   where
     at-zero : Dec (c ≡ 0) → P (repairAt w c i)
     at-zero (yes e) = rw (at-clean w c i e) (p e)
     at-zero (no ne) =
-        by-bound 128 i (λ h. rw (at-turned w c i ne h) (q ne h)) (λ h. rw (at-beyond w c i ne h) (r ne h))
+        by-bound wordBits i (λ h. rw (at-turned w c i ne h) (q ne h)) (λ h. rw (at-beyond w c i ne h) (r ne h))
 
 -- ---- what holds of any sixteen bytes
 
@@ -56,7 +57,7 @@ beyond-kept w =
     by-case (λ r. r .found ≡ Beyond → r .word ≡ w) w (checksOf w) (positionOf (checksOf w)) (λ e t. refl) (λ ne h t. cc) (λ ne h t. refl)
 
 -- and anything else is a code word afterwards
-pub repaired-checks : (w : List ℕ) → length w ≡ 16 → (repairOf w .found ≡ Beyond → ⊥) → checksOf (repairOf w .word) ≡ 0
+pub repaired-checks : (w : List ℕ) → length w ≡ wordBytes → (repairOf w .found ≡ Beyond → ⊥) → checksOf (repairOf w .word) ≡ 0
 unfolding repairOf
 repaired-checks w long =
     let c = checksOf w in
@@ -80,19 +81,19 @@ by-tests w v i false false = refl
 
 pub found-checks : (w : List ℕ) → foundOf (repairOf w .found) ≡ not (eqb (checksOf w) 0)
 unfolding repairOf repairAt
-found-checks w = by-tests w (turn w (positionOf (checksOf w))) (positionOf (checksOf w)) (eqb (checksOf w) 0) (ltb (positionOf (checksOf w)) 128)
+found-checks w = by-tests w (turn w (positionOf (checksOf w))) (positionOf (checksOf w)) (eqb (checksOf w) 0) (ltb (positionOf (checksOf w)) wordBits)
 
-module _ (w : List ℕ) (long : length w ≡ 16) (clean : checksOf w ≡ 0) where
+module _ (w : List ℕ) (long : length w ≡ wordBytes) (clean : checksOf w ≡ 0) where
   -- with one bit turned, its checks are that bit's column
-  pub one-checks : (i : ℕ) → i < 128 → checksOf (turn w i) ≡ columnOf i
+  pub one-checks : (i : ℕ) → i < wordBits → checksOf (turn w i) ≡ columnOf i
   one-checks i h = checks-turn w long i h ∙ ap (λ (c : ℕ). bitXor c (columnOf i)) clean ∙ xor-zero-l (columnOf i)
 
   -- so it is seen
-  pub one-seen : (i : ℕ) → i < 128 → checksOf (turn w i) ≡ 0 → ⊥
+  pub one-seen : (i : ℕ) → i < wordBits → checksOf (turn w i) ≡ 0 → ⊥
   one-seen i h e = column-not-zero i h (sym (one-checks i h) ∙ e)
 
   -- and repaired to what it was
-  pub one-repaired : (i : ℕ) → i < 128 → repairOf (turn w i) ≡ answer w (Turned i)
+  pub one-repaired : (i : ℕ) → i < wordBits → repairOf (turn w i) ≡ answer w (Turned i)
   unfolding repairOf
   one-repaired i h =
       let p : positionOf (checksOf (turn w i)) ≡ i = ap positionOf (one-checks i h) ∙ position-column i h in
@@ -100,7 +101,7 @@ module _ (w : List ℕ) (long : length w ≡ 16) (clean : checksOf w ≡ 0) wher
       ∙ at-turned (turn w i) (checksOf (turn w i)) i (one-seen i h) h
       ∙ ap (λ (v : List ℕ). answer v (Turned i)) (turn-turn w long i h)
 
-  module _ (i j : ℕ) (hi : i < 128) (hj : j < 128) (differ : i ≡ j → ⊥) where
+  module _ (i j : ℕ) (hi : i < wordBits) (hj : j < wordBits) (differ : i ≡ j → ⊥) where
     -- with two, its checks are the sum of two columns: not zero, and even by the row of ones
     pub two-checks : checksOf (turn (turn w i) j) ≡ bitXor (columnOf i) (columnOf j)
     two-checks =
@@ -116,5 +117,5 @@ module _ (w : List ℕ) (long : length w ≡ 16) (clean : checksOf w ≡ 0) wher
     unfolding repairOf
     two-beyond =
         let v = turn (turn w i) j in
-        let p : positionOf (checksOf v) ≡ 128 = no-column-even (checksOf v) (checks-lt v) even in
+        let p : positionOf (checksOf v) ≡ wordBits = no-column-even (checksOf v) (checks-lt v) even in
         at-beyond v (checksOf v) (positionOf (checksOf v)) two-seen (omega arith)

@@ -12,6 +12,7 @@ use Rattle.bits.specs.Bits.{digit, bitOf, bitAt}
 use Rattle.bits.proofs.Common.{agree}
 use Rattle.bits.proofs.Packing.{bitOf-lt}
 use Rattle.bits.proofs.Xor.{xor-cancel, digit-xor}
+use Rattle.sizes.specs.Sizes.{wordBits, wordBytes}
 use Rattle.matrix.specs.Columns.{columnOf}
 use Rattle.hamming.specs.Code.{checksOf, turn}
 use Rattle.matrix.proofs.Sums.{unit, unit-same, unit-other, unit-lt, taken-xor, sum-unit}
@@ -28,7 +29,7 @@ pub turn-long : (w : List ℕ) (i : ℕ) → length (turn w i) ≡ length w
 unfolding turn
 turn-long w i = length-set w (i / 8) (bitXor (getD w (i / 8) 0) (128 / 2 ^ (i % 8)))
 
-module _ (w : List ℕ) (long : length w ≡ 16) (i : ℕ) (h : i < 128) where
+module _ (w : List ℕ) (long : length w ≡ wordBytes) (i : ℕ) (h : i < wordBits) where
   -- the byte that holds bit i, and the others
   turn-here : getD (turn w i) (i / 8) 0 ≡ bitXor (getD w (i / 8) 0) (128 / 2 ^ (i % 8))
   unfolding turn
@@ -73,5 +74,5 @@ module _ (w : List ℕ) (long : length w ≡ 16) (i : ℕ) (h : i < 128) where
   pub checks-turn : checksOf (turn w i) ≡ bitXor (checksOf w) (columnOf i)
   unfolding checksOf
   checks-turn =
-      taken-xor 0 (bitAt w) (unit i) (bitAt (turn w i)) 128 (bitOf-lt 8 w) (unit-lt i) (λ j l. turn-bit j)
-      ∙ ap (bitXor (checksOf w)) (sum-unit 0 i 128 h ∙ ap columnOf (zero-add i))
+      taken-xor 0 (bitAt w) (unit i) (bitAt (turn w i)) wordBits (bitOf-lt 8 w) (unit-lt i) (λ j l. turn-bit j)
+      ∙ ap (bitXor (checksOf w)) (sum-unit 0 i wordBits h ∙ ap columnOf (zero-add i))

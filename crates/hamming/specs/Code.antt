@@ -7,11 +7,12 @@ use lib.Bits.{bitXor}
 use lib.Dec.{ltb}
 use lib.ListN.{getD, set}
 use Rattle.bits.specs.Bits.{digit, bitAt, pack}
+use Rattle.sizes.specs.Sizes.{elementBits, wordBits, checkBits, wordBytes}
 use Rattle.matrix.specs.Sums.{sumTo, taken, tailOf}
 
 -- the nine checks of a word, as a number: the row of s0 on top
 unfoldable pub checksOf : List ℕ → ℕ
-checksOf w = sumTo (taken 0 (bitAt w)) 128
+checksOf w = sumTo (taken 0 (bitAt w)) wordBits
 
 -- the word with bit i turned: the top bit of a byte is 128
 unfoldable pub turn : List ℕ → ℕ → List ℕ
@@ -19,7 +20,7 @@ turn w i = set w (i / 8) (bitXor (getD w (i / 8) 0) (128 / 2 ^ (i % 8)))
 
 -- what 119 bits add to the checks
 unfoldable pub elementSum : (ℕ → ℕ) → ℕ
-elementSum f = sumTo (taken 0 f) 119
+elementSum f = sumTo (taken 0 f) elementBits
 
 -- what byte k of a word adds to them where it is x
 unfoldable pub byteSum : ℕ → ℕ → ℕ
@@ -27,10 +28,10 @@ byteSum k x = sumTo (taken (8 * k) (digit 8 x)) 8
 
 -- the 119 bits f, and then the nine bits p
 unfoldable pub joined : (ℕ → ℕ) → ℕ → ℕ → ℕ
-joined f p i = cond (ltb i 119) (f i) (digit 9 p (i - 119))
+joined f p i = cond (ltb i elementBits) (f i) (digit checkBits p (i - elementBits))
 
 abbrev pub joinedWord : (ℕ → ℕ) → ℕ → List ℕ
-joinedWord f p = pack 16 (joined f p)
+joinedWord f p = pack wordBytes (joined f p)
 
 -- the code word of the 119 bits f 0 .. f 118: the check bits add what the others add, so that all checks are zero
 unfoldable pub coded : (ℕ → ℕ) → List ℕ

@@ -7,6 +7,7 @@ use lib.Dec.{ltb, eqb}
 use Rattle.hamming.specs.declared.Found.{Found}
 use Rattle.hamming.specs.declared.Found.the-variants.{Clean, Turned, Beyond}
 use Rattle.hamming.specs.declared.Repaired.{Repaired}
+use Rattle.sizes.specs.Sizes.{wordBits}
 use Rattle.matrix.specs.Columns.{positionOf}
 use Rattle.hamming.specs.Code.{checksOf, turn}
 
@@ -15,7 +16,7 @@ answer w f = record { word = w; found = f }
 
 -- the word w where its checks are c and c is the column of bit i; an i of 128 or more is none
 unfoldable pub repairAt : List ℕ → ℕ → ℕ → Repaired
-repairAt w c i = cond (eqb c 0) (answer w Clean) (cond (ltb i 128) (answer (turn w i) (Turned i)) (answer w Beyond))
+repairAt w c i = cond (eqb c 0) (answer w Clean) (cond (ltb i wordBits) (answer (turn w i) (Turned i)) (answer w Beyond))
 
 unfoldable pub repairOf : List ℕ → Repaired
 repairOf w = repairAt w (checksOf w) (positionOf (checksOf w))

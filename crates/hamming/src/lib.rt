@@ -1,6 +1,7 @@
 // The inner code: words, checks and repair. 001 section 10.5.
 ghost use mathlib.Core.Path.{_≡_};
-ghost use Prim.Native.Nat.{_*_, _%_, _<_};
+ghost use Prim.Native.Nat.{_*_, _%_, _^_, _<_};
+ghost use Rattle.sizes.specs.Sizes.{wordBits, checkBits, wordBytes};
 ghost use Rattle.bits.specs.Bits.{digit, bitAt};
 ghost use Rattle.matrix.specs.Columns.{columns, positionOf};
 ghost use Rattle.matrix.specs.Sums.{tailOf};
@@ -59,7 +60,7 @@ fn digit_of(x: u8, j: usize) -> u8
 
 // What byte k of a word adds to the checks where it is x.
 fn byte_sum(t: &[u16; 128], k: usize, x: u8) -> u16
-    requires { ⌜ (now t ≡ columns) × (k < 16) ⌝ }
+    requires { ⌜ (now t ≡ columns) × (k < wordBytes) ⌝ }
     ensures { λ r. ⌜ r ≡ byteSum k x ⌝ }
 {
     let mut sum = 0u16;
@@ -75,7 +76,7 @@ pub fn checks(w: [u8; 16]) -> u16
 {
     let t = matrix::column_table();
     let mut sum = 0u16;
-    for k in 0..16 {
+    for k in 0..sizes::WORD_BYTES {
         sum = sum ^ byte_sum(&t, k, w[k]);
     }
     sum
@@ -83,7 +84,7 @@ pub fn checks(w: [u8; 16]) -> u16
 
 // The first 119 bits of e, and then the nine lowest of p.
 pub fn join(e: [u8; 16], p: u16) -> [u8; 16]
-    ensures { λ r. ⌜ r ≡ joinedWord (bitAt e) (p % 512) ⌝ }
+    ensures { λ r. ⌜ r ≡ joinedWord (bitAt e) (p % 2 ^ checkBits) ⌝ }
 {
     let q = p % 512;
     let mut w = e;
@@ -94,7 +95,7 @@ pub fn join(e: [u8; 16], p: u16) -> [u8; 16]
 
 // The check bits that add c to the checks, for one word.
 fn tail(c: u16) -> u16
-    requires { ⌜ c < 512 ⌝ }
+    requires { ⌜ c < 2 ^ checkBits ⌝ }
     ensures { λ r. ⌜ r ≡ tailOf c ⌝ }
 {
     let tails = matrix::tail_table();
@@ -110,7 +111,7 @@ pub fn encode(e: [u8; 16]) -> [u8; 16]
 
 // The bit whose column c is, for one word.
 fn position(c: u16) -> u8
-    requires { ⌜ c < 512 ⌝ }
+    requires { ⌜ c < 2 ^ checkBits ⌝ }
     ensures { λ r. ⌜ r ≡ positionOf c ⌝ }
 {
     let positions = matrix::position_table();
@@ -119,7 +120,7 @@ fn position(c: u16) -> u8
 
 // The word with bit i turned.
 fn turned(w: [u8; 16], i: usize) -> [u8; 16]
-    requires { ⌜ i < 128 ⌝ }
+    requires { ⌜ i < wordBits ⌝ }
     ensures { λ r. ⌜ r ≡ turn w i ⌝ }
 {
     let mut v = w;
@@ -137,7 +138,7 @@ pub fn repair_at(w: [u8; 16], c: u16, i: u8) -> Repaired
             found: Found::Clean,
         };
     }
-    if i < 128 {
+    if i < sizes::WORD_BITS as u8 {
         let v = turned(w, i as usize);
         return Repaired {
             word: v,

@@ -15,6 +15,7 @@ use Rattle.bits.proofs.Common.{agree}
 use Rattle.bits.proofs.Lists.{is-table}
 use Rattle.bits.proofs.Numbers.{digit-lt}
 use Rattle.bits.proofs.Xor.{digit-xor}
+use Rattle.sizes.specs.Sizes.{wordBytes}
 use Rattle.matrix.specs.Columns.{columnOf}
 use Rattle.matrix.specs.Sums.{taken}
 use Rattle.hamming.specs.Code.{byteSum}
@@ -78,7 +79,7 @@ row-doubles k j n c h p q r l =
 
 -- ---- a table that is begun
 
-pub begun-none : {t : List ℕ} → length t ≡ 4096 → Begun 0 t
+pub begun-none : {t : List ℕ} → length t ≡ 256 * wordBytes → Begun 0 t
 begun-none p = record { long = p; first = λ e l. absurd (omega arith) }
 
 -- the same, where the code counts otherwise
@@ -86,7 +87,7 @@ pub begun-to : {m : ℕ} {t : List ℕ} (n : ℕ) → Begun m t → m ≡ n → 
 begun-to n b p = rw p at b
 
 -- one entry more
-begun-more : (m v : ℕ) (t : List ℕ) → Begun m t → m < 4096 → v ≡ byteEntry m → Begun (m + 1) (set t m v)
+begun-more : (m v : ℕ) (t : List ℕ) → Begun m t → m < 256 * wordBytes → v ≡ byteEntry m → Begun (m + 1) (set t m v)
 begun-more m v t b h p = record {
   long = length-set t m v ∙ b .long;
   first =
@@ -95,10 +96,10 @@ begun-more m v t b h p = record {
 }
 
 -- the first of a row, and one more by doubling
-pub begun-row : (k : ℕ) (t : List ℕ) → Begun (256 * k) t → k < 16 → Begun (256 * k + 1) (set t (256 * k) 0)
+pub begun-row : (k : ℕ) (t : List ℕ) → Begun (256 * k) t → k < wordBytes → Begun (256 * k + 1) (set t (256 * k) 0)
 begun-row k t b h = begun-more (256 * k) 0 t b (omega arith) (sym (row-first k))
 
-pub begun-double : (a n c r : ℕ) (t : List ℕ) → Doubles a n c → Begun (a + n + r) t → r < n → a + 2 * n ≤ 4096
+pub begun-double : (a n c r : ℕ) (t : List ℕ) → Doubles a n c → Begun (a + n + r) t → r < n → a + 2 * n ≤ 256 * wordBytes
     → Begun (a + n + (r + 1)) (set t (a + n + r) (bitXor (getD t (a + r) 0) c))
 begun-double a n c r t d b l h =
     begun-to (a + n + (r + 1))
@@ -106,5 +107,5 @@ begun-double a n c r t d b l h =
     (omega arith)
 
 -- all of it
-pub begun-all : {t : List ℕ} → Begun 4096 t → t ≡ byteTable
-begun-all {t} b = is-table 0 4096 byteEntry t (b .long) (b .first)
+pub begun-all : {t : List ℕ} → Begun (256 * wordBytes) t → t ≡ byteTable
+begun-all {t} b = is-table 0 (256 * wordBytes) byteEntry t (b .long) (b .first)

@@ -8,6 +8,7 @@ use lib.ListN.{getD}
 use Rattle.bits.specs.Bits.{bitAt, Bytes}
 use Rattle.bits.proofs.Lists.{getD-tabulate}
 use Rattle.bits.proofs.Packing.{bitOf-lt}
+use Rattle.sizes.specs.Sizes.{wordBytes}
 use Rattle.matrix.specs.Columns.{positionOf}
 use Rattle.matrix.specs.Sums.{tailOf, tailTable, positionTable}
 use Rattle.hamming.specs.Code.{checksOf, elementSum, joined, joinedWord, coded, wordOf, byteSum}
@@ -19,15 +20,15 @@ use Rattle.hamming.proofs.Words.{checks-lt, element-lt, joined-lt, pack-bytes}
 use Rattle.hamming.proofs.ByBytes.{byteOfSum, checks-bytes, checks-alone}
 use Rattle.lent.proofs.Doubling.{entry-of}
 
-byte-entry : (k x : ℕ) → k < 16 → x < 256 → getD byteTable (256 * k + x) 0 ≡ byteSum k x
-byte-entry k x h l = getD-tabulate 0 4096 byteEntry (256 * k + x) (omega arith) ∙ entry-of k x l
+byte-entry : (k x : ℕ) → k < wordBytes → x < 256 → getD byteTable (256 * k + x) 0 ≡ byteSum k x
+byte-entry k x h l = getD-tabulate 0 (256 * wordBytes) byteEntry (256 * k + x) (omega arith) ∙ entry-of k x l
 
 pub by-checks : (t w : List ℕ) → t ≡ byteTable → Bytes w → sumBy t w ≡ checksOf w
 unfolding sumBy entryAt byteOfSum
 by-checks t w e b =
-    sum-same (entryAt t w) (byteOfSum w) 16 each-byte ∙ checks-bytes w
+    sum-same (entryAt t w) (byteOfSum w) wordBytes each-byte ∙ checks-bytes w
   where
-    each-byte : (k : ℕ) → k < 16 → entryAt t w k ≡ byteOfSum w k
+    each-byte : (k : ℕ) → k < wordBytes → entryAt t w k ≡ byteOfSum w k
     each-byte k h = ap (λ (l : List ℕ). getD l (256 * k + getD w k 0) 0) e ∙ byte-entry k (getD w k 0) h (b k)
 
 pub by-word : (t tails e : List ℕ) → t ≡ byteTable → tails ≡ tailTable → wordBy t tails e ≡ wordOf e

@@ -3,6 +3,7 @@ use hamming::Repaired;
 ghost use mathlib.Core.Path.{_≡_};
 ghost use Prim.Native.Nat.{_+_, _*_, _≤_, _<_};
 ghost use lib.ListN.{getD};
+ghost use Rattle.sizes.specs.Sizes.{wordBytes};
 ghost use Rattle.matrix.specs.Columns.{columns};
 ghost use Rattle.hamming.specs.Repair.{repairAt};
 ghost use Rattle.lent.specs.Doubling.{Begun, Doubles};
@@ -10,7 +11,7 @@ ghost use Rattle.lent.specs.Lent.{byteTable, sumBy, wordBy};
 
 // The entries from at + n on, out of the n before them: each has one bit more, whose column is c.
 fn double(t: &mut [u16; 4096], at: usize, n: usize, c: u16)
-    requires { ⌜ (at + 2 * n ≤ 4096) × Doubles at n c × Begun (at + n) (now t) ⌝ }
+    requires { ⌜ (at + 2 * n ≤ 256 * wordBytes) × Doubles at n c × Begun (at + n) (now t) ⌝ }
     ensures { λ _. ⌜ Begun (at + 2 * n) (now (t .exit)) ⌝ }
 {
     for r in 0..n {
@@ -20,7 +21,7 @@ fn double(t: &mut [u16; 4096], at: usize, n: usize, c: u16)
 
 // The entries of byte k, from those before them. Its lowest bit comes first.
 fn fill_row(c: &[u16; 128], k: usize, t: &mut [u16; 4096])
-    requires { ⌜ (now c ≡ columns) × (k < 16) × Begun (256 * k) (now t) ⌝ }
+    requires { ⌜ (now c ≡ columns) × (k < wordBytes) × Begun (256 * k) (now t) ⌝ }
     ensures { λ _. ⌜ Begun (256 * k + 256) (now (t .exit)) ⌝ }
 {
     t[256 * k] = 0;
@@ -37,7 +38,7 @@ pub fn byte_table() -> [u16; 4096]
 {
     let c = matrix::column_table();
     let mut t = [0u16; 4096];
-    for k in 0..16 {
+    for k in 0..sizes::WORD_BYTES {
         fill_row(&c, k, &mut t);
     }
     t
@@ -56,7 +57,7 @@ pub fn checks_by(t: &[u16; 4096], w: [u8; 16]) -> u16
     ensures { λ r. ⌜ r ≡ sumBy (now (t .entry)) w ⌝ }
 {
     let mut sum = 0u16;
-    for k in 0..16 {
+    for k in 0..sizes::WORD_BYTES {
         sum = sum ^ t[256 * k + bits::wide(w[k]) as usize];
     }
     sum

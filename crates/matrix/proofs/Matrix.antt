@@ -16,33 +16,34 @@ use Rattle.bits.proofs.Numbers.{digit-lt}
 use Rattle.bits.proofs.Common.{agree, xor-none}
 use Rattle.bits.proofs.Tables.{both, both-left, both-right, each}
 use Rattle.bits.proofs.Xor.{digit-xor}
+use Rattle.sizes.specs.Sizes.{elementBits, wordBits, checkBits}
 use Rattle.matrix.specs.Columns.{columns, columnOf, placeIn, positionOf}
 use Rattle.matrix.specs.Sums.{sumTo, taken, tailSum, tailSums, tailOf}
 use Rattle.matrix.proofs.Sums.{taken-xor}
 
-pub columns-long : length columns ≡ 128
+pub columns-long : length columns ≡ wordBits
 unfolding columns
 columns-long = refl
 
 -- the lowest digit of column i is 1, so it is not zero
-pub column-odd : (i : ℕ) → i < 128 → columnOf i % 2 ≡ 1
+pub column-odd : (i : ℕ) → i < wordBits → columnOf i % 2 ≡ 1
 unfolding columnOf columns
-column-odd = agree (λ i. columnOf i % 2) (λ i. 1) 128 tt
+column-odd = agree (λ i. columnOf i % 2) (λ i. 1) wordBits tt
 
-pub column-not-zero : (i : ℕ) → i < 128 → columnOf i ≡ 0 → ⊥
+pub column-not-zero : (i : ℕ) → i < wordBits → columnOf i ≡ 0 → ⊥
 column-not-zero i h e = omega (arith, column-odd i h)
 
 -- it has nine digits
-pub column-lt : (i : ℕ) → i < 128 → columnOf i < 512
+pub column-lt : (i : ℕ) → i < wordBits → columnOf i < 512
 unfolding columnOf columns
-column-lt i h = let e : columnOf i / 512 ≡ 0 = agree (λ i. columnOf i / 512) (λ i. 0) 128 tt i h in omega arith
+column-lt i h = let e : columnOf i / 512 ≡ 0 = agree (λ i. columnOf i / 512) (λ i. 0) wordBits tt i h in omega arith
 
 -- its place among the columns is i, so no other has its number
-pub position-column : (i : ℕ) → i < 128 → positionOf (columnOf i) ≡ i
+pub position-column : (i : ℕ) → i < wordBits → positionOf (columnOf i) ≡ i
 unfolding positionOf placeIn columnOf columns
-position-column = agree (λ i. positionOf (columnOf i)) (λ i. i) 128 tt
+position-column = agree (λ i. positionOf (columnOf i)) (λ i. i) wordBits tt
 
-pub columns-differ : (i j : ℕ) → i < 128 → j < 128 → columnOf i ≡ columnOf j → i ≡ j
+pub columns-differ : (i j : ℕ) → i < wordBits → j < wordBits → columnOf i ≡ columnOf j → i ≡ j
 columns-differ i j h k e = sym (position-column i h) ∙ ap positionOf e ∙ position-column j k
 
 -- what stands at a place that was found is what was looked for
@@ -56,16 +57,16 @@ unfolding placeIn
 place-found [] x h = absurd (not-suc-le-zero h)
 place-found (y ∷ l) x h = place-step l y x (eqb y x) refl (place-found l x) h
 
-pub column-position : (c : ℕ) → positionOf c < 128 → columnOf (positionOf c) ≡ c
+pub column-position : (c : ℕ) → positionOf c < wordBits → columnOf (positionOf c) ≡ c
 unfolding positionOf columnOf
 column-position c h = place-found columns c (rw columns-long h)
 
 -- an even number is no column
-pub no-column-even : (c : ℕ) → c < 512 → c % 2 ≡ 0 → positionOf c ≡ 128
+pub no-column-even : (c : ℕ) → c < 512 → c % 2 ≡ 0 → positionOf c ≡ wordBits
 unfolding positionOf placeIn columns
 no-column-even c h e =
     let p : c ≡ 2 * (c / 2) = omega arith in
-    ap positionOf p ∙ agree (λ k. positionOf (2 * k)) (λ k. 128) 256 tt (c / 2) (omega arith)
+    ap positionOf p ∙ agree (λ k. positionOf (2 * k)) (λ k. wordBits) 256 tt (c / 2) (omega arith)
 
 -- ---- the last nine
 
@@ -88,7 +89,9 @@ tail-sum c h = eqb→eq (tailSum (tailOf c)) c (both-right (ltb (tailOf c) 512) 
 -- check bits add by sums of columns
 pub tail-xor : (p q : ℕ) → tailSum (bitXor p q) ≡ bitXor (tailSum p) (tailSum q)
 unfolding tailSum
-tail-xor p q = taken-xor 119 (digit 9 p) (digit 9 q) (digit 9 (bitXor p q)) 9 (digit-lt 9 p) (digit-lt 9 q) (λ j h. digit-xor 9 p q j)
+tail-xor p q =
+    taken-xor elementBits (digit checkBits p) (digit checkBits q) (digit checkBits (bitXor p q)) checkBits (digit-lt checkBits p) (digit-lt checkBits q)
+    (λ j h. digit-xor checkBits p q j)
 
 -- they are independent: only no column at all adds zero
 pub only-none : (p : ℕ) → p < 512 → tailSum p ≡ 0 → p ≡ 0
@@ -100,7 +103,7 @@ only-none p h e =
 -- so no two choices add the same
 pub independent : (p q : ℕ) → p < 512 → q < 512 → tailSum p ≡ tailSum q → p ≡ q
 independent p q h k e =
-    let z : bitXor p q ≡ 0 = only-none (bitXor p q) (xor-lt 9 p q h k) (tail-xor p q ∙ rw e (xor-self (tailSum q))) in
+    let z : bitXor p q ≡ 0 = only-none (bitXor p q) (xor-lt checkBits p q h k) (tail-xor p q ∙ rw e (xor-self (tailSum q))) in
     xor-none p q z
 
 -- the search finds those that were added

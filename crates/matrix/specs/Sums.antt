@@ -1,8 +1,9 @@
 -- Sums of columns of H without carries, and the nine check bits that add a given sum: 001 section 10.5. Assumes nothing: these are definitions.
-use Prim.Native.Nat.{ℕ, zero, suc, _+_, _*_}
+use Prim.Native.Nat.{ℕ, zero, suc, _+_, _*_, _^_}
 use mathlib.Core.List.{List}
 use lib.Bits.{bitXor}
 use Rattle.bits.specs.Bits.{tabulate, digit}
+use Rattle.sizes.specs.Sizes.{elementBits, checkBits}
 use Rattle.matrix.specs.Columns.{columnOf, placeIn, positionOf}
 
 -- f 0 + f 1 + .. + f (n - 1), digit by digit and without carries
@@ -16,10 +17,10 @@ taken a f i = f i * columnOf (a + i)
 
 -- what nine check bits p add to the checks, bit 119 on top
 unfoldable pub tailSum : ℕ → ℕ
-tailSum p = sumTo (taken 119 (digit 9 p)) 9
+tailSum p = sumTo (taken elementBits (digit checkBits p)) checkBits
 
 unfoldable pub tailSums : List ℕ
-tailSums = tabulate 512 tailSum
+tailSums = tabulate (2 ^ checkBits) tailSum
 
 -- the first nine check bits that add c to the checks
 unfoldable pub tailOf : ℕ → ℕ
@@ -27,7 +28,7 @@ tailOf c = placeIn tailSums c
 
 -- both as tables: the check bits by the checks, and the position by the checks
 abbrev pub tailTable : List ℕ
-tailTable = tabulate 512 tailOf
+tailTable = tabulate (2 ^ checkBits) tailOf
 
 abbrev pub positionTable : List ℕ
-positionTable = tabulate 512 positionOf
+positionTable = tabulate (2 ^ checkBits) positionOf

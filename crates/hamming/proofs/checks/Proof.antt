@@ -2,6 +2,7 @@
 use Prim.Native.Nat.{_-_}
 use mathlib.Core.Path.{_∙_}
 use borrow.Author.Needs.{needs}
+use Rattle.sizes.specs.Sizes.{wordBytes}
 use Rattle.matrix.specs.Sums.{taken}
 use Rattle.hamming.proofs.ByBytes.{byteOfSum, checks-bytes}
 use Rattle.matrix.proofs.Sums.{Summed, summed-none, summed-more, summed-all}
@@ -9,10 +10,10 @@ use Rattle.hamming.proofs.checks.Statement.{statement}
 use Rattle.hamming.proofs.checks.Tie as tie
 
 abbrev Inv-loop : tie.InvT-loop
-Inv-loop w t sum₀ k₀ sum k = Summed (byteOfSum w) 16 k sum
+Inv-loop w t sum₀ k₀ sum k = Summed (byteOfSum w) wordBytes k sum
 
 abbrev μ-loop : tie.MeasureT-loop
-μ-loop w t sum₀ k₀ sum k = 16 - k
+μ-loop w t sum₀ k₀ sum k = wordBytes - k
 
 column-table-requires : tie.Need-column-table-requires Inv-loop μ-loop
 column-table-requires c κs = search needs

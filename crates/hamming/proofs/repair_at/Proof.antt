@@ -15,6 +15,9 @@ returns : tie.Need-returns
 unfolding repairAt
 returns c = search tests
 
+cast-if2 : tie.Need-cast-if2
+cast-if2 c = search needs
+
 turned-requires : tie.Need-turned-requires
 turned-requires c κs = search needs
 
@@ -30,4 +33,4 @@ unfolding repairAt
 returns-3 c = search tests
 
 pub repair-at-spec : {M : Type 1} → statement M
-repair-at-spec = tie.close (tie.spec returns turned-requires returns-2 returns-3)
+repair-at-spec = tie.close (tie.spec returns cast-if2 turned-requires returns-2 returns-3)

@@ -3,16 +3,17 @@ use Prim.Native.Nat.{_+_, _-_, _*_, _≤_}
 use mathlib.Core.Path.{refl}
 use native.Mathlib.Omega.{arith}
 use borrow.Author.Needs.{needs}
+use Rattle.sizes.specs.Sizes.{wordBytes}
 use Rattle.lent.specs.Doubling.{Begun}
 use Rattle.lent.proofs.Doubling.{begun-none, begun-to, begun-all}
 use Rattle.lent.proofs.byte_table.Statement.{statement}
 use Rattle.lent.proofs.byte_table.Tie as tie
 
 abbrev Inv-loop : tie.InvT-loop
-Inv-loop c t₀ k₀ t k = (k ≤ 16) × Begun (256 * k) t
+Inv-loop c t₀ k₀ t k = (k ≤ wordBytes) × Begun (256 * k) t
 
 abbrev μ-loop : tie.MeasureT-loop
-μ-loop c t₀ k₀ t k = 16 - k
+μ-loop c t₀ k₀ t k = wordBytes - k
 
 column-table-requires : tie.Need-column-table-requires Inv-loop μ-loop
 column-table-requires c κs = search needs
@@ -33,7 +34,7 @@ loop-again : tie.Need-loop-again Inv-loop μ-loop
 loop-again c = (omega arith, begun-to (256 * (c .before .before .before .before .loop .k + 1)) (c .fill-row .ensures) (omega arith))
 
 returns : tie.Need-returns Inv-loop μ-loop
-returns c = begun-all (begun-to 4096 (c .before .loop .inv .1) (omega (arith, c .before .loop .inv .0, c .loop-test .left)))
+returns c = begun-all (begun-to (256 * wordBytes) (c .before .loop .inv .1) (omega (arith, c .before .loop .inv .0, c .loop-test .left)))
 
 pub byte-table-spec : {M : Type 1} → statement M
 byte-table-spec =

@@ -1,6 +1,7 @@
 -- `lent::checks_by` meets its contract: the invariant adds up the entries of the bytes that are in. Assumes nothing.
 use Prim.Native.Nat.{_-_}
 use borrow.Author.Needs.{needs}
+use Rattle.sizes.specs.Sizes.{wordBytes}
 use Rattle.matrix.specs.Sums.{taken}
 use Rattle.lent.specs.Lent.{entryAt, sumBy}
 use Rattle.matrix.proofs.Sums.{Summed, summed-none, summed-more, summed-all}
@@ -8,10 +9,10 @@ use Rattle.lent.proofs.checks_by.Statement.{statement}
 use Rattle.lent.proofs.checks_by.Tie as tie
 
 abbrev Inv-loop : tie.InvT-loop
-Inv-loop t w sum₀ k₀ sum k = Summed (entryAt t w) 16 k sum
+Inv-loop t w sum₀ k₀ sum k = Summed (entryAt t w) wordBytes k sum
 
 abbrev μ-loop : tie.MeasureT-loop
-μ-loop t w sum₀ k₀ sum k = 16 - k
+μ-loop t w sum₀ k₀ sum k = wordBytes - k
 
 loop-holds : tie.Need-loop-holds Inv-loop μ-loop
 loop-holds c = summed-none
