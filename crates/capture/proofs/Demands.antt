@@ -19,9 +19,10 @@ use Rattle.hamming.specs.Code.{checksOf}
 use Rattle.sizes.specs.Sizes.{mbasBits, mbasFrom, parityBytes, infoLength, parityLength, captureLength, words, blocksOf, blockBytes, listLength}
 use Rattle.line.specs.Captures.{wrong}
 use Rattle.line.specs.Fec.{mbasAllowed, mbasOf, fecBit}
-use Rattle.line.specs.Words.{wordAt, wordIn, wordsOf, fecIn}
+use Rattle.line_order.specs.Order.{wordAt, wordIn}
+use Rattle.line.specs.Words.{wordsOf, fecIn}
 use Rattle.line.proofs.CaptureLaws.{super-frames}
-use Rattle.line.proofs.WordLaws.{length-laid, laid-words}
+use Rattle.line_order.proofs.OrderLaws.{length-laid, laid-words}
 use Rattle.coder.specs.Code.{captureOf}
 use Rattle.reading.specs.Read.{repaired, isSeen, mbasDiffers, readRows, readAnswer}
 use Rattle.editing.specs.Edit.{listed, listOf, editedCapture, spareSet, fails, editRows, editAnswer, editLeaves}

@@ -11,7 +11,7 @@ use Rattle.hamming.specs.Code.{turn}
 use Rattle.sizes.specs.Sizes.{infoLength, parityLength, words}
 use Rattle.line.specs.Captures.{superAllowed}
 use Rattle.line.specs.Fec.{mbasAllowed}
-use Rattle.line.specs.Words.{laid, wordIn}
+use Rattle.line_order.specs.Order.{laid, wordIn}
 
 -- what is asked of an input: N super frames, an allowed first number, and buffers of the stated lengths
 pub record Input (N m0 : ℕ) (info par : List ℕ) : Type 0 where

@@ -16,7 +16,7 @@ use Rattle.sizes.specs.Sizes.{infoLength, parityLength, captureLength, words}
 use Rattle.line.specs.Captures.{wrong}
 use Rattle.line.specs.Fec.{fecBit}
 use Rattle.line.specs.Words.{wordsOf}
-use Rattle.line.proofs.WordLaws.{length-laid}
+use Rattle.line_order.proofs.OrderLaws.{length-laid}
 use Rattle.coder.specs.Code.{captureOf, codeRows, codeAnswer, codeLeaves}
 use Rattle.coder.proofs.Exactly.{code-rise}
 use Rattle.reading.specs.Read.{readRows, readAnswer, readLeaves}

@@ -13,9 +13,10 @@ use Rattle.answer.specs.Rows.{Row, done, refused, Applies, Least, rising}
 use Rattle.answer.proofs.Table.{answered-least, least-answered, answered-done, done-answered, refusal-count}
 use Rattle.sizes.specs.Sizes.{elementBits, fecElements, infoElements, captureLength, words, blocksOf}
 use Rattle.line.specs.Slots.{slotOf, elementIn}
-use Rattle.line.specs.Words.{wordAt, symbolAt, wordIn, wordsOf, fecIn}
+use Rattle.line_order.specs.Order.{wordAt, symbolAt, wordIn}
+use Rattle.line.specs.Words.{wordsOf, fecIn}
 use Rattle.line.proofs.SlotLaws.{element-slot, slot-lt, slot-once, holds-slot}
-use Rattle.line.proofs.WordLaws.{word-laid, word-lt, word-symbol, symbol-lt, place-back}
+use Rattle.line_order.proofs.OrderLaws.{word-laid, word-lt, word-symbol, symbol-lt, place-back}
 use Rattle.editing.specs.Edit.{blockFrom, editedFec, elementLocal, touches, listed, listOf, editedWord, editedCapture, editRows, editAnswer}
 use Rattle.editing.specs.Parts.{firstElement}
 use Rattle.editing.proofs.Touching.{element-tail, element-block, touches-some}

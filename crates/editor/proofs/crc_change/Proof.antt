@@ -7,7 +7,8 @@ use native.Mathlib.Omega.{arith}
 use denote.Ref.{now}
 use Rattle.crc.specs.Crc.{step, remFrom, remOf, shiftN}
 use Rattle.crc.proofs.Linear.{rem-more}
-use Rattle.line.specs.Words.{wordIn, fecIn}
+use Rattle.line_order.specs.Order.{wordIn}
+use Rattle.line.specs.Words.{fecIn}
 use Rattle.sizes.specs.Sizes.{blockBits, clientBlocks}
 use Rattle.editing.specs.Edit.{fecOf, blockFrom, change}
 use Rattle.editing.proofs.Changing.{change-bits, crc-changes}

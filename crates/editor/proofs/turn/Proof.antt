@@ -2,7 +2,7 @@
 use mathlib.Core.Path.{sym, _∙_}
 use native.Mathlib.Omega.{arith}
 use denote.Ref.{now}
-use Rattle.line.proofs.WordLaws.{place-lt}
+use Rattle.line_order.proofs.OrderLaws.{place-lt}
 use Rattle.editing.proofs.Listing.{listed-holding}
 use Rattle.editing.proofs.Passes.{turned-yes, turned-no}
 use borrow.Author.Needs.{needs}

@@ -4,7 +4,7 @@ use mathlib.Core.Path.{ap, _∙_}
 use native.Mathlib.Omega.{arith}
 use denote.Ref.{now}
 use Rattle.bits.specs.Bits.{bitAt}
-use Rattle.line.specs.Words.{symbolPlace}
+use Rattle.line_order.specs.Order.{symbolPlace}
 use Rattle.editing.proofs.Changing.{word-bit}
 use borrow.Author.Needs.{needs}
 use Rattle.editor.proofs.word_bit.Statement.{statement}
