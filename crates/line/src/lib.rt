@@ -26,11 +26,14 @@ pub fn mbas(m0: u64, t: u64) -> u8
     ((m0 % 64 + t % 64) % 64) as u8
 }
 
+// The row that does not wait.
+const LAST_ROW: usize = sizes::ROWS - 1;
+
 // How many words an element waits, by its own row or that of its word: the one place where the delay is written out.
 fn wait(w: usize) -> usize
     ensures { λ r. ⌜ r ≡ delay w ⌝ }
 {
-    sizes::ROW_WAIT * (sizes::ROWS - 1 - w % sizes::ROWS)
+    sizes::ROW_WAIT * (LAST_ROW - w % sizes::ROWS)
 }
 
 // The slot of element e.
