@@ -1,4 +1,5 @@
 -- The laws of `specs/`.
-pub mod Table
 pub mod Meets
+pub mod Table
+pub mod Turns
 pub mod Unique

@@ -2,3 +2,5 @@
 pub mod Numbers
 pub mod Rows
 pub mod Outcomes
+pub mod Demand1
+pub mod Steps

@@ -1,6 +1,8 @@
 // What every entry point hands back: a number of document 01's table, a place and a count.
+ghost use mathlib.Core.Bool.{cond};
 ghost use mathlib.Core.Path.{_≡_};
-ghost use Rattle.answer.specs.Rows.{done, refused, bufferPlace};
+ghost use Rattle.answer.specs.Numbers.{wrongLength};
+ghost use Rattle.answer.specs.Rows.{done, refused, wrong, bufferPlace};
 
 #[repr(C)]
 pub struct Answer {
@@ -55,4 +57,18 @@ pub fn buffer_place(i: u64) -> u64
     ensures { λ r. ⌜ r ≡ bufferPlace i ⌝ }
 {
     0
+}
+
+// One test of several in turn: where it holds the call is refused, else what comes next answers.
+pub fn refuse_if(holds: bool, number: u64, place: u64, next: Answer) -> Answer
+    ensures { λ r. ⌜ r ≡ cond holds (refused number place) next ⌝ }
+{
+    if holds { refuse(number, place) } else { next }
+}
+
+// Lent buffer i, counted from 1, has another length than the stated one.
+pub fn refuse_length(i: u64, long: u64, stated: u64, next: Answer) -> Answer
+    ensures { λ r. ⌜ r ≡ cond (wrong stated long) (refused wrongLength (bufferPlace i)) next ⌝ }
+{
+    refuse_if(long != stated, WRONG_LENGTH, buffer_place(i), next)
 }

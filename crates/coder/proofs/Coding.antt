@@ -22,7 +22,7 @@ use Rattle.line.specs.Frames.{superOf, elementOf}
 use Rattle.line.specs.Slots.{elementIn, holds, slotBit}
 use Rattle.line.specs.Words.{wordsOf}
 use Rattle.line.proofs.SlotLaws.{filler-bit, held-bit}
-use Rattle.coder.specs.Parts.{Agree, plainBit, entry}
+use Rattle.coder.specs.Steps.{Agree, plainBit, entry}
 
 -- ---- words
 

@@ -1,51 +1,42 @@
--- The code's chain of tests is the table, and what a granted call has shown. Assumes nothing.
-use Prim.Native.Nat.{ℕ, _<_}
-use mathlib.Core.Bool.{cond, not, _&&_}
-use mathlib.Core.Path.{_≡_, sym, ap, _∙_}
-use mathlib.Core.List.{List, [], _∷_}
-use borrow.Author.Tests.{not-false, eqb-true}
-use lib.Dec.{eqb}
+-- The table of coding: its answer is exact, and what a granted call has shown. Assumes nothing.
+use Prim.Native.Nat.{ℕ}
+use mathlib.Core.Bool.{true}
+use mathlib.Core.Path.{_≡_, refl, _∙_}
+use mathlib.Core.List.{List}
 use lib.ListN.{length}
-use Rattle.answer.specs.Numbers.{allDone, outsideSet, wrongLength}
-use Rattle.answer.specs.Rows.{done, refused, answerOf, bufferPlace, buffers}
+use Rattle.answer.specs.Numbers.{allDone}
+use Rattle.answer.specs.Rows.{Row, done, rowNumber, answerOf, rising}
+use Rattle.answer.specs.Demand1.{Exactly, Demand1}
+use Rattle.answer.specs.Outcomes.{Outcome}
+use Rattle.answer.specs.Steps.{NoFault, RowPassed, Passed}
 use Rattle.answer.specs.declared.Answer.{Answer}
-use Rattle.answer.proofs.Table.{row-whole, row-buffers, inTurn, guard, two-tests}
-use Rattle.sizes.specs.Sizes.{infoLength, parityLength, captureLength, words}
-use Rattle.line.specs.Captures.{superAllowed, wrong}
-use Rattle.line.specs.Fec.{mbasAllowed}
-use Rattle.line.proofs.CaptureLaws.{super-frames}
-use Rattle.coder.specs.Code.{codeRows, codeAnswer}
-use Rattle.coder.specs.Parts.{judged}
+use Rattle.answer.proofs.Table.{exactly, demand-1}
+use Rattle.answer.proofs.Turns.{in-turn, passed, right-length}
+use Rattle.sizes.specs.Sizes.{words}
+use Rattle.line.proofs.CaptureLaws.{frames-in}
+use Rattle.coder.specs.Code.{captureOf, codeRows, codeAnswer, codeLeaves}
+use Rattle.coder.specs.Steps.{Granted}
 
-pub judged-is : (N m0 : ℕ) (info par cap : List ℕ) → judged N m0 (length info) (length par) (length cap) ≡ codeAnswer N m0 info par cap
-unfolding judged codeAnswer codeRows wrong inTurn answerOf
-judged-is N m0 info par cap =
-    let wrongs = wrong (infoLength N) info ∷ wrong (parityLength N) par ∷ wrong (captureLength N) cap ∷ [] in
-    sym (row-whole outsideSet (not (superAllowed N && mbasAllowed m0)) (buffers wrongLength wrongs ∷ []) (words N)
-    ∙ ap (cond (not (superAllowed N && mbasAllowed m0)) (refused outsideSet 0)) (row-buffers wrongLength wrongs [] (words N))
-    ∙ two-tests (superAllowed N) (mbasAllowed m0) (refused outsideSet 0) (inTurn wrongLength wrongs 1 (done (words N))))
+pub code-rise : (N m0 info par cap : ℕ) → rising 0 (codeRows N m0 info par cap) ≡ true
+unfolding rising codeRows rowNumber
+code-rise N m0 info par cap = refl
 
-pub record Accepted (N info par cap : ℕ) : Type 0 where
-  pub few : N < 9
-  pub information : info ≡ infoLength N
-  pub parity : par ≡ parityLength N
-  pub capture : cap ≡ captureLength N
+module _ (N m0 : ℕ) (info par cap : List ℕ) where
+  abbrev rows : List Row
+  rows = codeRows N m0 (length info) (length par) (length cap)
 
-pub accepted : (N m0 info par cap : ℕ) → judged N m0 info par cap .number ≡ allDone → Accepted N info par cap
-unfolding judged
-accepted N m0 info par cap e =
-    let g₁ = guard (not (superAllowed N)) 0 0 _ e in
-    let g₂ = guard (not (mbasAllowed m0)) 0 0 _ (g₁ .1) in
-    let g₃ = guard (not (eqb info (infoLength N))) 1 (bufferPlace 1) _ (g₂ .1) in
-    let g₄ = guard (not (eqb par (parityLength N))) 1 (bufferPlace 2) _ (g₃ .1) in
-    let g₅ = guard (not (eqb cap (captureLength N))) 1 (bufferPlace 3) _ (g₄ .1) in
-    record {
-      few = super-frames N (not-false (superAllowed N) (g₁ .0)) .few;
-      information = eqb-true info (infoLength N) (not-false (eqb info (infoLength N)) (g₃ .0));
-      parity = eqb-true par (parityLength N) (not-false (eqb par (parityLength N)) (g₄ .0));
-      capture = eqb-true cap (captureLength N) (not-false (eqb cap (captureLength N)) (g₅ .0));
-    }
+  -- DEMAND 1 of coding: the answer, and the capture
+  pub code-exactly : Exactly rows (words N) (codeAnswer N m0 info par cap)
+  unfolding codeAnswer
+  code-exactly = exactly rows (words N) (code-rise N m0 (length info) (length par) (length cap))
 
--- the same of a value that is the answer
-pub accepted-by : (N m0 info par cap : ℕ) (r : Answer) → r ≡ judged N m0 info par cap → r .number ≡ allDone → Accepted N info par cap
-accepted-by N m0 info par cap r e z = accepted N m0 info par cap (ap (λ (x : Answer). x .number) (sym e) ∙ z)
+  pub code-demand-1 : {r : Answer} {left : List ℕ} → Outcome (codeAnswer N m0 info par cap) (codeLeaves N m0 info par cap) r left
+      → Demand1 rows (words N) (captureOf N m0 info par) cap r left
+  unfolding codeAnswer codeLeaves
+  code-demand-1 o = demand-1 rows (words N) (captureOf N m0 info par) cap (code-rise N m0 (length info) (length par) (length cap)) o
+
+  pub granted : {r : Answer} → r ≡ answerOf rows (words N) → r .number ≡ allDone → Granted N info par cap
+  unfolding codeRows Passed RowPassed NoFault
+  granted e z =
+      let p = passed rows (done (words N)) (code-rise N m0 (length info) (length par) (length cap)) (e ∙ in-turn rows (words N)) z in
+      record { few = frames-in N m0 (p .0) .few; information = right-length (p .1 .0 .0); parity = right-length (p .1 .0 .1 .0); capture = right-length (p .1 .0 .1 .1 .0) }

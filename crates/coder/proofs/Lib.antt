@@ -3,5 +3,4 @@ pub mod Tails
 pub mod Plain
 pub mod Coding
 pub mod Judging
-pub mod Exactly
 pub mod Unique

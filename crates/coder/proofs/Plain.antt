@@ -18,7 +18,7 @@ use Rattle.line.specs.Fec.{fecBit, infoBit, parityBit, blockCrc, mbasOf}
 use Rattle.line.specs.Frames.{superOf}
 use Rattle.line.proofs.FecLaws.{fec-info, fec-crc, fec-mbas, fec-parity}
 use Rattle.line.proofs.FrameLaws.{super-pad, super-fec}
-use Rattle.coder.specs.Parts.{Agree, plainBit, tailBit}
+use Rattle.coder.specs.Steps.{Agree, plainBit, tailBit}
 use Rattle.coder.proofs.Tails.{tail-low, tail-mid, tail-high, tail-bits}
 
 -- ---- which layer an element's bits are of

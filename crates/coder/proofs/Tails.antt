@@ -9,7 +9,7 @@ use borrow.Author.Tests.{lt-ltb, le-ltb}
 use lib.Dec.{ltb}
 use Rattle.bits.specs.Bits.{num, digit, bitAt, from, Bits}
 use Rattle.bits.proofs.Numbers.{num-ext, num-split, num-front, num-is, num-part, digit-lt}
-use Rattle.coder.specs.Parts.{tailBit}
+use Rattle.coder.specs.Steps.{tailBit}
 
 module _ (crc mbas : ℕ) (p : ℕ → ℕ) where
   pub tail-low : (i : ℕ) → i < 32 → tailBit crc mbas p i ≡ digit 32 crc i

@@ -1,3 +1,3 @@
 -- What `code` answers and writes.
 pub mod Code
-pub mod Parts
+pub mod Steps

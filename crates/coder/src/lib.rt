@@ -5,12 +5,13 @@ ghost use Prim.Native.Nat.{_+_, _*_, _^_, _≤_, _<_};
 ghost use lib.ListN.{length};
 ghost use Rattle.bits.specs.Bits.{tabulate, bitAt, byteOf, pack, from};
 ghost use Rattle.answer.specs.Outcomes.{Outcome};
+ghost use Rattle.answer.specs.Rows.{answerOf};
 ghost use Rattle.crc.specs.ByBytes.{entries};
 ghost use Rattle.sizes.specs.Sizes.{infoBytes, fecBlocks, superElements, infoLength, captureLength, words};
 ghost use Rattle.line.specs.Fec.{fecBit, blockCrc};
 ghost use Rattle.line.specs.Words.{wordsOf};
-ghost use Rattle.coder.specs.Code.{captureOf, codeAnswer, codeLeaves};
-ghost use Rattle.coder.specs.Parts.{Agree, plainBit, tailBit, entry, Crcs, Granted, Ready, judged};
+ghost use Rattle.coder.specs.Code.{captureOf, codeRows, codeAnswer, codeLeaves};
+ghost use Rattle.coder.specs.Steps.{Agree, plainBit, tailBit, entry, Crcs, Granted, Ready};
 
 // Words are written eight at a time.
 const SUPER_GROUPS: usize = sizes::SUPER_ELEMENTS / 8;
@@ -43,29 +44,21 @@ pub fn code(n: u64, m0: u64, info: &[u8], parity: &[u8], capture: &mut [u8]) -> 
 
 // The answer, from the numbers alone.
 fn judge(n: u64, m0: u64, info: u64, parity: u64, capture: u64) -> Answer
-    ensures { λ r. ⌜ r ≡ judged n m0 info parity capture ⌝ }
+    ensures { λ r. ⌜ r ≡ answerOf (codeRows n m0 info parity capture) (words n) ⌝ }
 {
-    if !line::super_allowed(n) {
+    if !line::numbers_allowed(n, m0) {
         return answer::refuse(answer::OUTSIDE_SET, 0);
     }
-    if !line::mbas_allowed(m0) {
-        return answer::refuse(answer::OUTSIDE_SET, 0);
-    }
-    if info != sizes::SUPER_INFO_BYTES as u64 * n {
-        return answer::refuse(answer::WRONG_LENGTH, answer::buffer_place(1));
-    }
-    if parity != sizes::SUPER_PARITY_BYTES as u64 * n {
-        return answer::refuse(answer::WRONG_LENGTH, answer::buffer_place(2));
-    }
-    if capture != sizes::SUPER_CAPTURE_BYTES as u64 * n + sizes::FILLER_BYTES as u64 {
-        return answer::refuse(answer::WRONG_LENGTH, answer::buffer_place(3));
-    }
-    answer::granted(sizes::SUPER_ELEMENTS as u64 * n + sizes::LONGEST_WAIT as u64)
+    let capture_bytes = sizes::SUPER_CAPTURE_BYTES as u64 * n + sizes::FILLER_BYTES as u64;
+    let a = answer::granted(sizes::SUPER_ELEMENTS as u64 * n + sizes::LONGEST_WAIT as u64);
+    let b = answer::refuse_length(3, capture, capture_bytes, a);
+    let c = answer::refuse_length(2, parity, sizes::SUPER_PARITY_BYTES as u64 * n, b);
+    answer::refuse_length(1, info, sizes::SUPER_INFO_BYTES as u64 * n, c)
 }
 
 // Makes the tables that every word needs, once, and codes.
 fn code_all(n: usize, m0: u64, info: &[u8], parity: &[u8], capture: &mut [u8])
-    requires { ⌜ Granted n (now info) (now parity) × (length (now capture) ≡ captureLength n) ⌝ }
+    requires { ⌜ Granted n (now info) (now parity) (now capture) ⌝ }
     ensures { λ _. ⌜ now (capture .exit) ≡ captureOf n m0 (now (info .entry)) (now (parity .entry)) ⌝ }
 {
     let crcs = block_crcs(n, info);

@@ -19,7 +19,7 @@ use Rattle.line_order.specs.Order.{symbolPlace, wordIn}
 use Rattle.line.specs.Words.{elementFrom, superIn, fecIn}
 use Rattle.line_order.proofs.OrderLaws.{word-symbol}
 use Rattle.editing.specs.Edit.{blockFrom, inBlock, replaced, change, crcChange, elementFec, elementLocal}
-use Rattle.editing.specs.Parts.{onePeriod}
+use Rattle.editing.specs.Steps.{onePeriod}
 use Rattle.editing.proofs.Touching.{block-in, block-before, block-past}
 
 -- ---- what is read

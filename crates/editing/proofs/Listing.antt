@@ -15,7 +15,7 @@ use Rattle.sizes.specs.Sizes.{fecBlocks, elementBits, superElements, fecElement
 use Rattle.line.specs.Slots.{slotOf, delay, elementIn, holds}
 use Rattle.line.proofs.SlotLaws.{held}
 use Rattle.editing.specs.Edit.{fecOf, blockFrom, elementFec, elementLocal, isPad, touches, listed, fails}
-use Rattle.editing.specs.Parts.{firstElement, stretchFrom, stretchTo}
+use Rattle.editing.specs.Steps.{firstElement, stretchFrom, stretchTo}
 use Rattle.editing.proofs.Touching.{Touch, touches-at, touches-some, element-before, element-past}
 use Rattle.editing.proofs.Picking.{In, count-few}
 

@@ -20,7 +20,7 @@ use Rattle.line_order.specs.Order.{laid, wordIn, putWord, changed}
 use Rattle.line.specs.Words.{wordsOf, fecIn}
 use Rattle.line_order.proofs.OrderLaws.{length-laid, length-word, word-laid, laid-ext, laid-words, put-laid}
 use Rattle.editing.specs.Edit.{fecOf, crcChange, editedFec, listed, picked, listOf, editedWord, editedCapture}
-use Rattle.editing.specs.Parts.{remade, mixed, listing, Passing, Turned}
+use Rattle.editing.specs.Steps.{remade, mixed, listing, Passing, Turned}
 use Rattle.editing.proofs.Picking.{length-picked, picked-no, picked-set, count-yes, count-no}
 use Rattle.editing.proofs.Listing.{listed-few}
 use Rattle.editing.proofs.Remaking.{word-made}

@@ -1,4 +1,4 @@
--- What an edit promises: which number is answered, exactly; which words are listed, and how many; what every word holds afterwards.
+-- What an edit promises: which words are listed, and how many; what every word holds afterwards.
 -- Assumes nothing.
 use Prim.Native.Nat.{ℕ, _+_, _-_, _*_, _/_, _≤_, _<_}
 use mathlib.Core.Bool.{true, false}
@@ -8,47 +8,18 @@ use native.Mathlib.Omega.{arith}
 use lib.ListN.{length, getD}
 use Rattle.bits.specs.Loops.{count}
 use Rattle.bits.proofs.Common.{by-bound}
-use Rattle.answer.specs.Numbers.{allDone}
-use Rattle.answer.specs.Rows.{Row, done, refused, Applies, Least, rising}
-use Rattle.answer.proofs.Table.{answered-least, least-answered, answered-done, done-answered, refusal-count}
 use Rattle.sizes.specs.Sizes.{elementBits, fecElements, infoElements, captureLength, words, blocksOf}
 use Rattle.line.specs.Slots.{slotOf, elementIn}
 use Rattle.line_order.specs.Order.{wordAt, symbolAt, wordIn}
 use Rattle.line.specs.Words.{wordsOf, fecIn}
 use Rattle.line.proofs.SlotLaws.{element-slot, slot-lt, slot-once, holds-slot}
 use Rattle.line_order.proofs.OrderLaws.{word-laid, word-lt, word-symbol, symbol-lt, place-back}
-use Rattle.editing.specs.Edit.{blockFrom, editedFec, elementLocal, touches, listed, listOf, editedWord, editedCapture, editRows, editAnswer}
-use Rattle.editing.specs.Parts.{firstElement}
+use Rattle.editing.specs.Edit.{blockFrom, editedFec, elementLocal, touches, listed, listOf, editedWord, editedCapture}
+use Rattle.editing.specs.Steps.{firstElement}
 use Rattle.editing.proofs.Touching.{element-tail, element-block, touches-some}
 use Rattle.editing.proofs.Picking.{length-picked, picked-entry, picked-rises, picked-room, picked-has, count-few, count-many}
 use Rattle.editing.proofs.Listing.{own, own-in, own-element, own-fec, own-tail, own-block, slotNo, listedCount, listed-slot, listed-count-ge, listed-count-le, holding-listed}
 use Rattle.editing.proofs.Passes.{edited-long, edited-kept}
-
--- ---- the numbers handed back
-
-module _ (N b : ℕ) (bits parity cap list : List ℕ) where
-  abbrev rows : List Row
-  rows = editRows N b bits parity cap list
-
-  rows-rise : rising 0 (editRows N b bits parity cap list) ≡ true
-  unfolding rising editRows
-  rows-rise = refl
-
-  -- EXACTLY: number k at place p is answered exactly if row k holds at p and nothing smaller does
-  pub edit-exactly : (k p : ℕ) → 0 < k → (editAnswer N b bits parity cap list ≡ refused k p → Least rows k p) × (Least rows k p → editAnswer N b bits parity cap list ≡ refused k p)
-  unfolding editAnswer
-  edit-exactly k p h = (answered-least rows (count (listed N b) (words N)) rows-rise k p h, least-answered rows (count (listed N b) (words N)) rows-rise k p)
-
-  -- a refusal has count 0
-  pub edit-refusal : (editAnswer N b bits parity cap list .number ≡ allDone → ⊥) → editAnswer N b bits parity cap list .count ≡ 0
-  unfolding editAnswer
-  edit-refusal = refusal-count rows (count (listed N b) (words N)) rows-rise
-
-  -- DONE: exactly if nothing applies; the count is how many words are listed
-  pub edit-done : (editAnswer N b bits parity cap list .number ≡ allDone → (editAnswer N b bits parity cap list ≡ done (count (listed N b) (words N))) × ((k p : ℕ) → Applies rows k p → ⊥))
-      × (((k p : ℕ) → Applies rows k p → ⊥) → editAnswer N b bits parity cap list ≡ done (count (listed N b) (words N)))
-  unfolding editAnswer
-  edit-done = (answered-done rows (count (listed N b) (words N)) rows-rise, done-answered rows (count (listed N b) (words N)) rows-rise)
 
 -- ---- the list
 

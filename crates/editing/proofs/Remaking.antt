@@ -19,7 +19,7 @@ use Rattle.line.proofs.FecLaws.{fields-info, fields-crc, fields-mbas, fields-pa
 use Rattle.line.proofs.FrameLaws.{element-fec}
 use Rattle.line.proofs.SlotLaws.{held, held-bit}
 use Rattle.editing.specs.Edit.{fecOf, inBlock, blockFrom, replaced, crcChange, newCrc, editedBits, editedFec, elementFec, elementLocal, listed, editedWord}
-use Rattle.editing.specs.Parts.{newInfoBit, newBit, newElement, onePeriod, parityElement, remade}
+use Rattle.editing.specs.Steps.{newInfoBit, newBit, newElement, onePeriod, parityElement, remade}
 use Rattle.editing.proofs.Changing.{sequence-from, received-at}
 use Rattle.editing.proofs.Listing.{listed-holding, local-lt}
 

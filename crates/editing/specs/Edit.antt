@@ -4,17 +4,17 @@ use Prim.Native.Nat.{ℕ, zero, suc, _+_, _-_, _*_, _/_, _%_}
 use mathlib.Core.Bool.{Bool, false, cond, not, _&&_, _||_}
 use mathlib.Core.List.{List, [], _∷_, _++_}
 use lib.Dec.{ltb, leb, eqb}
-use lib.ListN.{drop}
+use lib.ListN.{length, drop}
 use Rattle.bits.specs.Bits.{num, digit, bitAt, added}
 use Rattle.bits.specs.Loops.{count}
 use Rattle.answer.specs.Numbers.{outsideSet, wrongLength, spareBit, listedFails}
-use Rattle.answer.specs.Rows.{Row, answerOf, whole, buffers}
+use Rattle.answer.specs.Rows.{Row, whole, buffers, each, wrong, answerOf}
 use Rattle.answer.specs.Outcomes.{written}
 use Rattle.answer.specs.declared.Answer.{Answer}
 use Rattle.crc.specs.Crc.{remOf}
 use Rattle.hamming.specs.Code.{checksOf}
-use Rattle.sizes.specs.Sizes.{blockBits, clientBlocks, infoBits, crcBits, mbasFrom, parityFrom, parityBytes, fecBlocks, elementBits, superElements, fecElements, captureLength, words, superBlocks}
-use Rattle.line.specs.Captures.{superAllowed, wrong}
+use Rattle.sizes.specs.Sizes.{blockBytes, listLength, blocksOf, blockBits, clientBlocks, infoBits, crcBits, mbasFrom, parityFrom, parityBytes, fecBlocks, elementBits, superElements, fecElements, captureLength, words}
+use Rattle.line.specs.Captures.{superAllowed}
 use Rattle.line.specs.Fec.{fields}
 use Rattle.line.specs.Slots.{elementIn, holds}
 use Rattle.line_order.specs.Order.{laid, wordIn}
@@ -109,13 +109,21 @@ spareSet bits = not (eqb (num 7 (bitAt bits) blockBits) 0)
 unfoldable pub fails : ℕ → ℕ → List ℕ → ℕ → Bool
 fails N b cap w = listed N b w && not (eqb (checksOf (wordIn cap w)) 0)
 
-unfoldable pub editRows : ℕ → ℕ → List ℕ → List ℕ → List ℕ → List ℕ → List Row
-editRows N b bits parity cap list =
+-- numbers 1 to 3, from the numbers, the buffers' lengths and whether a spare bit is set; buffers as document 01 names them, inputs first
+unfoldable pub editEarlyRows : ℕ → ℕ → ℕ → ℕ → ℕ → ℕ → Bool → List Row
+editEarlyRows N b bits parity cap list spare =
     whole outsideSet (not (superAllowed N && ltb b (blocksOf N)))
     ∷ buffers wrongLength (wrong blockBytes bits ∷ wrong parityBytes parity ∷ wrong (captureLength N) cap ∷ wrong listLength list ∷ [])
-    ∷ buffers spareBit (spareSet bits ∷ [])
-    ∷ record { number = listedFails; places = words N; holds = fails N b cap }
+    ∷ buffers spareBit (spare ∷ [])
     ∷ []
+
+-- number 9, from the capture
+unfoldable pub editLateRows : ℕ → ℕ → List ℕ → List Row
+editLateRows N b cap = each listedFails (words N) (fails N b cap) ∷ []
+
+abbrev pub editRows : ℕ → ℕ → List ℕ → List ℕ → List ℕ → List ℕ → List Row
+editRows N b bits parity cap list =
+    editEarlyRows N b (length bits) (length parity) (length cap) (length list) (spareSet bits) ++ editLateRows N b cap
 
 -- the count is how many words were listed
 unfoldable pub editAnswer : ℕ → ℕ → List ℕ → List ℕ → List ℕ → List ℕ → Answer

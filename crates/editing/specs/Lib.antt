@@ -1,3 +1,3 @@
 -- What `edit` answers, changes and lists; and the steps on the way there.
 pub mod Edit
-pub mod Parts
+pub mod Steps

@@ -1,21 +1,23 @@
 // Editing a capture: one client block and the parity of its FEC block replaced in place, and the words listed that hold them.
 use answer::Answer;
 ghost use mathlib.Core.Path.{_≡_};
-ghost use mathlib.Core.Bool.{not};
-ghost use lib.Dec.{eqb};
+ghost use mathlib.Core.Bool.{not, _&&_};
+ghost use lib.Dec.{ltb, eqb};
 ghost use Prim.Native.Nat.{ℕ, _+_, _*_, _%_, _≤_, _<_};
 ghost use lib.ListN.{length};
 ghost use Rattle.bits.specs.Bits.{bitAt, byteOf, pack};
 ghost use Rattle.bits.specs.Loops.{first};
 ghost use Rattle.answer.specs.Outcomes.{Outcome};
+ghost use Rattle.answer.specs.Rows.{answerOf};
 ghost use Rattle.hamming.specs.Code.{checksOf};
 ghost use Rattle.lent.specs.Lent.{byteTable};
 ghost use Rattle.sizes.specs.Sizes.{blockBits, fecBits, fecBlocks, elementBits, superElements, fecElements, infoElements, captureLength, words, blocksOf, listLength};
+ghost use Rattle.line.specs.Captures.{superAllowed};
 ghost use Rattle.line.specs.Slots.{elementIn};
 ghost use Rattle.line_order.specs.Order.{wordIn};
 ghost use Rattle.line.specs.Words.{fecIn};
-ghost use Rattle.editing.specs.Edit.{fecOf, blockFrom, change, crcChange, elementLocal, touches, listed, fails, spareSet, editAnswer, editLeaves};
-ghost use Rattle.editing.specs.Parts.{judged, Accepted, onePeriod, firstElement, stretchFrom, stretchTo, newInfoBit, newBit, newElement, parityElement, remade, Lent, Passing, Turned};
+ghost use Rattle.editing.specs.Edit.{fecOf, blockFrom, change, crcChange, elementLocal, touches, listed, fails, spareSet, editEarlyRows, editAnswer, editLeaves};
+ghost use Rattle.editing.specs.Steps.{Accepted, onePeriod, firstElement, stretchFrom, stretchTo, newInfoBit, newBit, newElement, parityElement, remade, Lent, Passing, Turned};
 
 // One period of the scrambler's sequence, and a word's bits more, so that a word can be cut out anywhere.
 const PERIOD_BYTES: usize = 8208;
@@ -48,42 +50,35 @@ pub fn edit(
         parity.len() as u64,
         capture.len() as u64,
         list.len() as u64,
+        spare_set(bits),
     );
     if r.number != 0 {
         return r;
     }
-    if spare_set(bits) {
-        return answer::refuse(answer::SPARE_BIT, answer::buffer_place(1));
-    }
     edit_checked(n as usize, block as usize, bits, parity, capture, list)
 }
 
-// Numbers 1 and 2, from the numbers and the buffers' lengths.
-fn judge(n: u64, block: u64, bits: u64, parity: u64, capture: u64, list: u64) -> Answer
-    ensures { λ r. ⌜ r ≡ judged n block bits parity capture list ⌝ }
+// Whether a capture of n super frames has the client block.
+fn has_block(n: u64, block: u64) -> bool
+    ensures { λ r. ⌜ r ≡ (superAllowed n && ltb block (blocksOf n)) ⌝ }
 {
-    if n < 1 {
+    line::super_allowed(n) && block / (sizes::SUPER_CLIENT_BLOCKS as u64) < n
+}
+
+// Numbers 1 to 3, from the numbers, the buffers' lengths and whether a spare bit is set.
+fn judge(n: u64, block: u64, bits: u64, parity: u64, capture: u64, list: u64, spare: bool) -> Answer
+    ensures { λ r. ⌜ r ≡ answerOf (editEarlyRows n block bits parity capture list spare) 0 ⌝ }
+{
+    if !has_block(n, block) {
         return answer::refuse(answer::OUTSIDE_SET, 0);
     }
-    if 8 < n {
-        return answer::refuse(answer::OUTSIDE_SET, 0);
-    }
-    if sizes::SUPER_CLIENT_BLOCKS as u64 * n <= block {
-        return answer::refuse(answer::OUTSIDE_SET, 0);
-    }
-    if bits != sizes::BLOCK_BYTES as u64 {
-        return answer::refuse(answer::WRONG_LENGTH, answer::buffer_place(1));
-    }
-    if parity != sizes::PARITY_BYTES as u64 {
-        return answer::refuse(answer::WRONG_LENGTH, answer::buffer_place(2));
-    }
-    if capture != sizes::SUPER_CAPTURE_BYTES as u64 * n + sizes::FILLER_BYTES as u64 {
-        return answer::refuse(answer::WRONG_LENGTH, answer::buffer_place(3));
-    }
-    if list != sizes::LIST_LENGTH as u64 {
-        return answer::refuse(answer::WRONG_LENGTH, answer::buffer_place(4));
-    }
-    answer::granted(0)
+    let capture_bytes = sizes::SUPER_CAPTURE_BYTES as u64 * n + sizes::FILLER_BYTES as u64;
+    let done = answer::granted(0);
+    let a = answer::refuse_if(spare, answer::SPARE_BIT, answer::buffer_place(1), done);
+    let b = answer::refuse_length(4, list, sizes::LIST_LENGTH as u64, a);
+    let c = answer::refuse_length(3, capture, capture_bytes, b);
+    let d = answer::refuse_length(2, parity, sizes::PARITY_BYTES as u64, c);
+    answer::refuse_length(1, bits, sizes::BLOCK_BYTES as u64, d)
 }
 
 // Whether one of the seven spare bits behind the 257 is set.

@@ -1,4 +1,5 @@
 // The line: total functions for the layers of document 01 that coding, reading and editing share.
+ghost use mathlib.Core.Bool.{_&&_};
 ghost use mathlib.Core.Path.{_≡_};
 ghost use Prim.Native.Nat.{_/_, _<_};
 ghost use Rattle.line.specs.Captures.{superAllowed};
@@ -9,7 +10,7 @@ ghost use Rattle.line.specs.Slots.{slotOf, delay, elementIn, holds};
 pub fn super_allowed(n: u64) -> bool
     ensures { λ r. ⌜ r ≡ superAllowed n ⌝ }
 {
-    1 <= n && n <= 8
+    1 <= n && n <= sizes::MOST_FRAMES as u64
 }
 
 // Whether a caller may count the FEC blocks from m0 on.
@@ -17,6 +18,13 @@ pub fn mbas_allowed(m0: u64) -> bool
     ensures { λ r. ⌜ r ≡ mbasAllowed m0 ⌝ }
 {
     m0 < 64
+}
+
+// Whether both are.
+pub fn numbers_allowed(n: u64, m0: u64) -> bool
+    ensures { λ r. ⌜ r ≡ (superAllowed n && mbasAllowed m0) ⌝ }
+{
+    super_allowed(n) && mbas_allowed(m0)
 }
 
 // The number that FEC block t carries.

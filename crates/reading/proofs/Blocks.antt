@@ -18,7 +18,7 @@ use Rattle.sizes.specs.Sizes.{infoBits, crcBits, mbasBits, mbasFrom, fecBits, f
 use Rattle.line.specs.Fec.{mbasOf}
 use Rattle.line.specs.Words.{superIn, fecIn}
 use Rattle.reading.specs.Read.{repaired, mbasDiffers, crcDiffers, padDiffers}
-use Rattle.reading.specs.Parts.{soughtOf, frameOf, mbasOff, crcOff, padOff, blockTaken, framesTo}
+use Rattle.reading.specs.Steps.{soughtOf, frameOf, mbasOff, crcOff, padOff, blockTaken, framesTo}
 use Rattle.reading.specs.declared.BlockTally.{BlockTally}
 use Rattle.reading.proofs.Searching.{first-more}
 use Rattle.reading.proofs.Places.{frame-bit, frame-fec}

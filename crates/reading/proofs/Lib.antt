@@ -4,5 +4,4 @@ pub mod Judging
 pub mod Pieces
 pub mod Places
 pub mod Blocks
-pub mod Exactly
 pub mod Unique

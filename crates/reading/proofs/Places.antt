@@ -23,7 +23,7 @@ use Rattle.line.specs.Frames.{superFrom, fecFrom}
 use Rattle.line.specs.Slots.{slotOf}
 use Rattle.line.specs.Words.{elementFrom, superIn, fecIn}
 use Rattle.reading.specs.Read.{repaired}
-use Rattle.reading.specs.Parts.{sequence, frameOf, startOf, followed, plainByte, infoIn, parityIn}
+use Rattle.reading.specs.Steps.{sequence, frameOf, startOf, followed, plainByte, infoIn, parityIn}
 
 -- ---- bits
 

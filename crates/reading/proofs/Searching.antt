@@ -19,7 +19,7 @@ use Rattle.hamming.proofs.Repairs.{none-kept, found-checks}
 use Rattle.line.specs.Slots.{holds}
 use Rattle.line_order.specs.Order.{wordIn}
 use Rattle.reading.specs.Read.{repaired, allZero, isBeyond, isFilled, isSeen}
-use Rattle.reading.specs.Parts.{soughtOf, wordsTo}
+use Rattle.reading.specs.Steps.{soughtOf, wordsTo}
 use Rattle.reading.specs.declared.WordTally.{WordTally}
 
 -- ---- a search

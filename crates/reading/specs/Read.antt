@@ -2,19 +2,20 @@
 -- parity, for any bytes in the capture. Assumes nothing: these are definitions.
 use Prim.Native.Nat.{ℕ, _*_}
 use mathlib.Core.Bool.{Bool, true, not, _&&_}
-use mathlib.Core.List.{List, [], _∷_}
+use mathlib.Core.List.{List, [], _∷_, _++_}
 use lib.Dec.{eqb}
+use lib.ListN.{length}
 use Rattle.bits.specs.Bits.{num}
 use Rattle.bits.specs.Loops.{count}
 use Rattle.answer.specs.Numbers.{outsideSet, wrongLength, beyondRepair, fillerNotZero, wrongMbas, wrongCrc, padNotZero}
-use Rattle.answer.specs.Rows.{Row, answerOf, whole, buffers}
+use Rattle.answer.specs.Rows.{Row, whole, buffers, each, wrong, answerOf}
 use Rattle.answer.specs.Outcomes.{written}
 use Rattle.answer.specs.declared.Answer.{Answer}
 use Rattle.crc.specs.Crc.{crcOf}
 use Rattle.hamming.specs.Code.{checksOf}
 use Rattle.hamming.specs.Repair.{repairOf, numberOf}
 use Rattle.sizes.specs.Sizes.{infoBits, crcBits, mbasBits, mbasFrom, fecBlocks, padFrom, padBits, infoLength, parityLength, captureLength, words}
-use Rattle.line.specs.Captures.{superAllowed, wrong}
+use Rattle.line.specs.Captures.{superAllowed}
 use Rattle.line.specs.Fec.{mbasAllowed, mbasOf}
 use Rattle.line.specs.Frames.{infoOf, parityOf}
 use Rattle.line.specs.Slots.{holds}
@@ -58,16 +59,25 @@ isSeen cap w = not (eqb (checksOf (wordIn cap w)) 0)
 
 -- ---- the answer
 
-unfoldable pub readRows : ℕ → ℕ → List ℕ → List ℕ → List ℕ → List Row
-readRows N m0 cap info par =
+-- numbers 1 and 2, from the numbers and the buffers' lengths; buffers as document 01 names them, inputs first
+unfoldable pub readEarlyRows : ℕ → ℕ → ℕ → ℕ → ℕ → List Row
+readEarlyRows N m0 cap info par =
     whole outsideSet (not (superAllowed N && mbasAllowed m0))
     ∷ buffers wrongLength (wrong (captureLength N) cap ∷ wrong (infoLength N) info ∷ wrong (parityLength N) par ∷ [])
-    ∷ record { number = beyondRepair; places = words N; holds = isBeyond cap }
-    ∷ record { number = fillerNotZero; places = words N; holds = isFilled N cap }
-    ∷ record { number = wrongMbas; places = fecBlocks * N; holds = mbasDiffers m0 cap }
-    ∷ record { number = wrongCrc; places = fecBlocks * N; holds = crcDiffers cap }
-    ∷ record { number = padNotZero; places = N; holds = padDiffers cap }
     ∷ []
+
+-- numbers 4 to 8, from the capture
+unfoldable pub readLateRows : ℕ → ℕ → List ℕ → List Row
+readLateRows N m0 cap =
+    each beyondRepair (words N) (isBeyond cap)
+    ∷ each fillerNotZero (words N) (isFilled N cap)
+    ∷ each wrongMbas (fecBlocks * N) (mbasDiffers m0 cap)
+    ∷ each wrongCrc (fecBlocks * N) (crcDiffers cap)
+    ∷ each padNotZero N (padDiffers cap)
+    ∷ []
+
+abbrev pub readRows : ℕ → ℕ → List ℕ → List ℕ → List ℕ → List Row
+readRows N m0 cap info par = readEarlyRows N m0 (length cap) (length info) (length par) ++ readLateRows N m0 cap
 
 unfoldable pub readAnswer : ℕ → ℕ → List ℕ → List ℕ → List ℕ → Answer
 readAnswer N m0 cap info par = answerOf (readRows N m0 cap info par) (count (isSeen cap) (words N))

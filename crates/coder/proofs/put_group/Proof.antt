@@ -3,7 +3,7 @@ use Prim.Native.Nat.{_-_}
 use Rattle.bits.proofs.Lists.{Filled, filled-more, filled-all}
 use Rattle.bits.proofs.LoopLaws.{loops}
 use mathlib.Core.Path.{refl}
-use Rattle.coder.specs.Parts.{entry}
+use Rattle.coder.specs.Steps.{entry}
 use Rattle.coder.proofs.put_group.Statement.{statement}
 use Rattle.coder.proofs.put_group.Tie as tie
 

@@ -5,7 +5,7 @@ use native.Mathlib.Omega.{arith}
 use denote.Ref.{now}
 use Rattle.bits.specs.Bits.{num, bitAt, from}
 use Rattle.coder.proofs.Tails.{byte-crc, byte-mid, byte-high, byte-start}
-use Rattle.coder.specs.Parts.{tailBit}
+use Rattle.coder.specs.Steps.{tailBit}
 use Rattle.coder.proofs.Plain.{from-bits}
 use borrow.Author.Needs.{needs}
 use Rattle.coder.proofs.tail_byte.Statement.{statement}

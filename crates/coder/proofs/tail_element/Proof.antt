@@ -3,7 +3,7 @@ use Prim.Native.Nat.{_-_}
 use Rattle.bits.proofs.Lists.{Filled}
 use Rattle.bits.proofs.LoopLaws.{loops}
 use Rattle.bits.specs.Bits.{bitAt, byteOf, from}
-use Rattle.coder.specs.Parts.{tailBit}
+use Rattle.coder.specs.Steps.{tailBit}
 use Rattle.coder.proofs.tail_element.Statement.{statement}
 use Rattle.coder.proofs.tail_element.Tie as tie
 

@@ -28,7 +28,7 @@ returns c =
     let f = c .before .before in
     let s = f .before .before .before .before .before .before .before .before in
     let a = s .args in
-    nine-outcome (a .n) (a .b) (now (a .bits)) (now (a .parity)) (now (a .capture)) (now (a .list)) (c .refuse .result) (f .first-refused .result) (s .pre)
+    nine-outcome (a .n) (a .b) (now (a .bits)) (now (a .parity)) (now (a .capture)) (now (a .list)) (s .pre)
     (f .first-refused .ensures) (c .before .if1 .taken) (c .refuse .ensures)
 
 replace-requires : tie.Need-replace-requires
@@ -50,7 +50,7 @@ returns-2 c =
     let f = i .before in
     let s = f .before .before .before .before .before .before .before .before in
     let a = s .args in
-    done-outcome (a .n) (a .b) (now (a .bits)) (now (a .parity)) (now (a .capture)) (now (a .list)) (c .granted .result) (f .first-refused .result) (p .replace .result) _ _ (s .pre)
+    done-outcome (a .n) (a .b) (now (a .bits)) (now (a .parity)) (now (a .capture)) (now (a .list)) (s .pre)
     (f .first-refused .ensures) (i .if1 .left) (p .replace .ensures) (c .granted .ensures)
 
 pub edit-checked-spec : {M : Type 1} → statement M

@@ -9,7 +9,7 @@ use Rattle.bits.proofs.Common.{by-bound}
 use Rattle.bits.proofs.LoopLaws.{first-is, first-none}
 use Rattle.sizes.specs.Sizes.{words}
 use Rattle.editing.specs.Edit.{fails}
-use Rattle.editing.specs.Parts.{stretchFrom, stretchTo}
+use Rattle.editing.specs.Steps.{stretchFrom, stretchTo}
 use Rattle.editing.proofs.Listing.{fails-outside, stretch-in}
 use borrow.Author.Needs.{needs}
 use Rattle.editor.proofs.first_refused.Statement.{statement}

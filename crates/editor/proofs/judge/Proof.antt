@@ -1,130 +1,89 @@
--- `editor::judge` meets its contract. Assumes nothing.
-use mathlib.Core.Path.{ap, _∙_}
-use borrow.Author.Tests.{lt-ltb, le-ltb, le-leb, lt-leb, eq-eqb, ne-eqb}
-use Rattle.answer.specs.Numbers.{wrongLength}
-use Rattle.answer.specs.Rows.{refused}
-use Rattle.editing.specs.Parts.{judged}
+-- `editor::judge` meets its contract: the tests in turn are the table. Assumes nothing.
+use Prim.Native.Nat.{_<_}
+use mathlib.Core.Bool.{false, not, _&&_}
+use mathlib.Core.Path.{_≡_, sym, ap, _∙_}
+use native.Mathlib.Omega.{arith}
+use borrow.Author.Tests.{not-false}
+use lib.Dec.{ltb}
+use Rattle.bits.proofs.Common.{and-left}
+use Rattle.answer.specs.Steps.{faultsThen, rowThen, inTurn}
+use Rattle.answer.proofs.Turns.{in-turn}
+use Rattle.sizes.specs.Sizes.{blocksOf}
+use Rattle.line.specs.Captures.{superAllowed}
+use Rattle.line.proofs.CaptureLaws.{super-frames}
+use Rattle.editing.specs.Edit.{editEarlyRows}
 use borrow.Author.Needs.{needs}
 use Rattle.editor.proofs.judge.Statement.{statement}
 use Rattle.editor.proofs.judge.Tie as tie
+
+inside : (c : tie.Else1) → let a = c .before .before .args in not (superAllowed (a .n) && ltb (a .block) (blocksOf (a .n))) ≡ false
+inside c = ap not (sym (c .before .has-block .ensures)) ∙ c .if1 .left
+
+few : (c : tie.Else1) → c .before .before .args .n < 9
+few c =
+    let a = c .before .before .args in
+    super-frames (a .n) (and-left (superAllowed (a .n)) (ltb (a .block) (blocksOf (a .n))) (not-false (superAllowed (a .n) && ltb (a .block) (blocksOf (a .n))) (inside c))) .few
+
+has-block-requires : tie.Need-has-block-requires
+has-block-requires c κs = search needs
 
 refuse-requires : tie.Need-refuse-requires
 refuse-requires c κs = search needs
 
 returns : tie.Need-returns
-unfolding judged
-returns c =
-    rw (lt-ltb _ _ (c .before .if1 .taken))
-    (c .refuse .ensures)
+unfolding editEarlyRows inTurn rowThen
+returns c = rw (in-turn, ← (c .before .before .has-block .ensures), c .before .if1 .taken) (c .refuse .ensures)
 
-refuse-requires-2 : tie.Need-refuse-requires-2
-refuse-requires-2 c κs = search needs
+mul-capture-bytes : tie.Need-mul-capture-bytes
+mul-capture-bytes c = omega (arith, few c)
 
-returns-2 : tie.Need-returns-2
-unfolding judged
-returns-2 c =
-    rw (le-ltb _ _ (c .before .before .if1 .left), lt-ltb _ _ (c .before .if2 .taken))
-    (c .refuse2 .ensures)
-
-mul-if3 : tie.Need-mul-if3
-mul-if3 c = search needs
-
-refuse-requires-3 : tie.Need-refuse-requires-3
-refuse-requires-3 c κs = search needs
-
-returns-3 : tie.Need-returns-3
-unfolding judged
-returns-3 c =
-    rw (le-ltb _ _ (c .before .before .before .if1 .left), le-ltb _ _ (c .before .before .if2 .left), le-leb _ _ (c .before .if3 .taken))
-    (c .refuse3 .ensures)
-
-buffer-place-requires : tie.Need-buffer-place-requires
-buffer-place-requires c κs = search needs
-
-refuse-requires-4 : tie.Need-refuse-requires-4
-refuse-requires-4 c κs = search needs
-
-returns-4 : tie.Need-returns-4
-unfolding judged
-returns-4 c =
-    rw (le-ltb _ _ (c .before .before .before .before .before .if1 .left), le-ltb _ _ (c .before .before .before .before .if2 .left), lt-leb _ _ (c .before .before .before .if3 .left), ne-eqb _ _ (c .before .before .if4 .taken))
-    (c .refuse4 .ensures ∙ ap (refused wrongLength) (c .before .buffer-place .ensures))
-
-buffer-place-requires-2 : tie.Need-buffer-place-requires-2
-buffer-place-requires-2 c κs = search needs
-
-refuse-requires-5 : tie.Need-refuse-requires-5
-refuse-requires-5 c κs = search needs
-
-returns-5 : tie.Need-returns-5
-unfolding judged
-returns-5 c =
-    rw (le-ltb _ _ (c .before .before .before .before .before .before .if1 .left), le-ltb _ _ (c .before .before .before .before .before .if2 .left), lt-leb _ _ (c .before .before .before .before .if3 .left), eq-eqb _ _ (c .before .before .before .if4 .left), ne-eqb _ _ (c .before .before .if5 .taken))
-    (c .refuse5 .ensures ∙ ap (refused wrongLength) (c .before .buffer-place2 .ensures))
-
-mul-if6 : tie.Need-mul-if6
-mul-if6 c = search needs
-
-add-if6 : tie.Need-add-if6
-add-if6 c = search needs
-
-buffer-place-requires-3 : tie.Need-buffer-place-requires-3
-buffer-place-requires-3 c κs = search needs
-
-refuse-requires-6 : tie.Need-refuse-requires-6
-refuse-requires-6 c κs = search needs
-
-returns-6 : tie.Need-returns-6
-unfolding judged
-returns-6 c =
-    rw (le-ltb _ _ (c .before .before .before .before .before .before .before .if1 .left), le-ltb _ _ (c .before .before .before .before .before .before .if2 .left), lt-leb _ _ (c .before .before .before .before .before .if3 .left), eq-eqb _ _ (c .before .before .before .before .if4 .left), eq-eqb _ _ (c .before .before .before .if5 .left), ne-eqb _ _ (c .before .before .if6 .taken))
-    (c .refuse6 .ensures ∙ ap (refused wrongLength) (c .before .buffer-place3 .ensures))
-
-buffer-place-requires-4 : tie.Need-buffer-place-requires-4
-buffer-place-requires-4 c κs = search needs
-
-refuse-requires-7 : tie.Need-refuse-requires-7
-refuse-requires-7 c κs = search needs
-
-returns-7 : tie.Need-returns-7
-unfolding judged
-returns-7 c =
-    rw (le-ltb _ _ (c .before .before .before .before .before .before .before .before .if1 .left), le-ltb _ _ (c .before .before .before .before .before .before .before .if2 .left), lt-leb _ _ (c .before .before .before .before .before .before .if3 .left), eq-eqb _ _ (c .before .before .before .before .before .if4 .left), eq-eqb _ _ (c .before .before .before .before .if5 .left), eq-eqb _ _ (c .before .before .before .if6 .left), ne-eqb _ _ (c .before .before .if7 .taken))
-    (c .refuse7 .ensures ∙ ap (refused wrongLength) (c .before .buffer-place4 .ensures))
+add-capture-bytes : tie.Need-add-capture-bytes
+add-capture-bytes c = omega (arith, few c)
 
 granted-requires : tie.Need-granted-requires
 granted-requires c κs = search needs
 
-returns-8 : tie.Need-returns-8
-unfolding judged
-returns-8 c =
-    rw (le-ltb _ _ (c .before .before .before .before .before .before .before .if1 .left), le-ltb _ _ (c .before .before .before .before .before .before .if2 .left), lt-leb _ _ (c .before .before .before .before .before .if3 .left), eq-eqb _ _ (c .before .before .before .before .if4 .left), eq-eqb _ _ (c .before .before .before .if5 .left), eq-eqb _ _ (c .before .before .if6 .left), eq-eqb _ _ (c .before .if7 .left))
-    (c .granted .ensures)
+buffer-place-requires : tie.Need-buffer-place-requires
+buffer-place-requires c κs = search needs
+
+refuse-if-requires : tie.Need-refuse-if-requires
+refuse-if-requires c κs = search needs
+
+refuse-length-requires : tie.Need-refuse-length-requires
+refuse-length-requires c κs = search needs
+
+refuse-length-requires-2 : tie.Need-refuse-length-requires-2
+refuse-length-requires-2 c κs = search needs
+
+refuse-length-requires-3 : tie.Need-refuse-length-requires-3
+refuse-length-requires-3 c κs = search needs
+
+refuse-length-requires-4 : tie.Need-refuse-length-requires-4
+refuse-length-requires-4 c κs = search needs
+
+returns-2 : tie.Need-returns-2
+unfolding editEarlyRows inTurn rowThen faultsThen
+returns-2 c =
+    let l = c .before .before .before in
+    let s = l .before in
+    let g = s .before .before in
+    rw (in-turn, inside (g .before), c .refuse-length4 .ensures, c .before .refuse-length3 .ensures, c .before .before .refuse-length2 .ensures)
+    (rw (l .refuse-length .ensures, s .refuse-if .ensures, s .before .buffer-place .ensures, g .granted .ensures))
 
 pub judge-spec : {M : Type 1} → statement M
 judge-spec =
     tie.close
     (tie.spec
+    has-block-requires
     refuse-requires
     returns
-    refuse-requires-2
-    returns-2
-    mul-if3
-    refuse-requires-3
-    returns-3
-    buffer-place-requires
-    refuse-requires-4
-    returns-4
-    buffer-place-requires-2
-    refuse-requires-5
-    returns-5
-    mul-if6
-    add-if6
-    buffer-place-requires-3
-    refuse-requires-6
-    returns-6
-    buffer-place-requires-4
-    refuse-requires-7
-    returns-7
+    mul-capture-bytes
+    add-capture-bytes
     granted-requires
-    returns-8)
+    buffer-place-requires
+    refuse-if-requires
+    refuse-length-requires
+    refuse-length-requires-2
+    refuse-length-requires-3
+    refuse-length-requires-4
+    returns-2)

@@ -5,7 +5,7 @@ use native.Mathlib.Omega.{arith}
 use denote.Ref.{now}
 use Rattle.bits.proofs.LoopLaws.{loops}
 use Rattle.bits.proofs.Numbers.{Packed, packed-more, packed-all}
-use Rattle.editing.specs.Parts.{newElement}
+use Rattle.editing.specs.Steps.{newElement}
 use Rattle.editing.proofs.Remaking.{new-element-bits}
 use Rattle.editor.proofs.new_byte.Statement.{statement}
 use Rattle.editor.proofs.new_byte.Tie as tie

@@ -3,7 +3,7 @@ use Prim.Native.Nat.{_-_}
 use native.Mathlib.Omega.{arith}
 use Rattle.bits.specs.Bits.{byteOf}
 use Rattle.bits.proofs.Lists.{Filled, filled-none, filled-more, filled-all}
-use Rattle.editing.specs.Parts.{newElement}
+use Rattle.editing.specs.Steps.{newElement}
 use Rattle.editor.proofs.new_element.Statement.{statement}
 use Rattle.editor.proofs.new_element.Tie as tie
 

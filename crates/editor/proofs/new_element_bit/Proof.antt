@@ -4,7 +4,7 @@ use mathlib.Core.Path.{ap, _∙_}
 use denote.Ref.{now}
 use Rattle.sizes.specs.Sizes.{elementBits, fecElements, superElements}
 use Rattle.editing.specs.Edit.{elementLocal}
-use Rattle.editing.specs.Parts.{newBit, newElement}
+use Rattle.editing.specs.Steps.{newBit, newElement}
 use borrow.Author.Needs.{needs}
 use Rattle.editor.proofs.new_element_bit.Statement.{statement}
 use Rattle.editor.proofs.new_element_bit.Tie as tie

@@ -2,7 +2,7 @@
 use Prim.Native.Nat.{ℕ, _+_, _%_}
 use mathlib.Core.Path.{ap₂, _∙_}
 use denote.Ref.{now}
-use Rattle.editing.specs.Parts.{newInfoBit}
+use Rattle.editing.specs.Steps.{newInfoBit}
 use Rattle.editing.proofs.Changing.{sequence-bit}
 use Rattle.editing.proofs.Touching.{block-in, block-before, block-past}
 use borrow.Author.Needs.{needs}

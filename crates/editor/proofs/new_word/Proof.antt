@@ -5,7 +5,7 @@ use denote.Ref.{now}
 use Rattle.bits.specs.Bits.{pack}
 use Rattle.lent.proofs.Tabled.{by-word}
 use Rattle.editing.specs.Edit.{elementLocal}
-use Rattle.editing.specs.Parts.{newElement, parityElement}
+use Rattle.editing.specs.Steps.{newElement, parityElement}
 use Rattle.editing.proofs.Remaking.{made-whole, made-slowly}
 use borrow.Author.Needs.{needs}
 use Rattle.editor.proofs.new_word.Statement.{statement}

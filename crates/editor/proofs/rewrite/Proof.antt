@@ -3,7 +3,7 @@ use Prim.Native.Nat.{_-_, _≤_}
 use native.Mathlib.Omega.{arith}
 use denote.Ref.{now}
 use Rattle.sizes.specs.Sizes.{words}
-use Rattle.editing.specs.Parts.{stretchTo, Passing}
+use Rattle.editing.specs.Steps.{stretchTo, Passing}
 use Rattle.editing.proofs.Listing.{listed-outside, stretch-in}
 use Rattle.editing.proofs.Passes.{passing-start, passing-skip, passing-long, passing-entries, passing-few, passing-turn}
 use borrow.Author.Needs.{needs}

@@ -5,7 +5,7 @@ use lib.ListN.{take, drop, length}
 use Rattle.bits.proofs.Packing.{length-packs}
 use Rattle.scrambler.specs.Scrambler.{o}
 use Rattle.sizes.specs.Sizes.{superBytes, superElements}
-use Rattle.reading.specs.Parts.{followed, plainByte, startOf}
+use Rattle.reading.specs.Steps.{followed, plainByte, startOf}
 use Rattle.reading.proofs.Places.{element-byte, part-long, filled-part}
 use native.Mathlib.Omega.{arith}
 use denote.Ref.{now}

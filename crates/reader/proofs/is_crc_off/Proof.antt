@@ -1,5 +1,5 @@
 -- `reader::is_crc_off` meets its contract. Assumes nothing.
-use Rattle.reading.specs.Parts.{crcOff}
+use Rattle.reading.specs.Steps.{crcOff}
 use borrow.Author.Needs.{needs}
 use Rattle.reader.proofs.is_crc_off.Statement.{statement}
 use Rattle.reader.proofs.is_crc_off.Tie as tie

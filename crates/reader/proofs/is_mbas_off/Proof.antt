@@ -5,7 +5,7 @@ use Rattle.bits.specs.Bits.{bitAt}
 use Rattle.bits.proofs.Numbers.{num-front}
 use Rattle.bits.proofs.Packing.{bitOf-lt}
 use Rattle.sizes.specs.Sizes.{fecBits, mbasFrom}
-use Rattle.reading.specs.Parts.{mbasOff}
+use Rattle.reading.specs.Steps.{mbasOff}
 use borrow.Author.Needs.{needs}
 use Rattle.reader.proofs.is_mbas_off.Statement.{statement}
 use Rattle.reader.proofs.is_mbas_off.Tie as tie

@@ -7,7 +7,7 @@ use lib.Bits.{bitXor}
 use lib.ListN.{length, getD}
 use Rattle.bits.proofs.Lists.{Filled, filled-all, tabulate-ext}
 use Rattle.bits.proofs.LoopLaws.{loops}
-use Rattle.reading.specs.Parts.{plainByte}
+use Rattle.reading.specs.Steps.{plainByte}
 use Rattle.reading.proofs.Pieces.{byte-behind}
 use Rattle.reader.proofs.put_bytes.Statement.{statement}
 use Rattle.reader.proofs.put_bytes.Tie as tie

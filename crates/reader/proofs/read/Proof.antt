@@ -12,7 +12,7 @@ read-accepted-requires : tie.Need-read-accepted-requires
 read-accepted-requires c κs =
     let a = c .before .before .before .before .before .before .before .before .args in
     let j = c .before .before .before .before .judge in
-    accepted (a .n) (a .m0) (now (a .capture)) (now (a .info)) (now (a .parity)) (j .result) (j .ensures) (c .before .before .if1 .taken)
+    accepted (a .n) (a .m0) (now (a .capture)) (now (a .info)) (now (a .parity)) (j .ensures) (c .before .before .if1 .taken)
 
 same-length : tie.Need-same-length
 same-length c = search needs
@@ -24,13 +24,13 @@ returns : tie.Need-returns
 returns c =
     let a = c .before .before .before .before .before .before .before .before .before .before .before .before .before .args in
     let j = c .before .before .before .before .before .before .before .before .before .judge in
-    read-late (a .n) (a .m0) (now (a .capture)) (now (a .info)) (now (a .parity)) (j .result) (j .ensures) (c .before .before .before .before .before .before .before .if1 .taken) (c .before .before .before .before .read-accepted .ensures)
+    read-late (a .n) (a .m0) (now (a .capture)) (now (a .info)) (now (a .parity)) (j .ensures) (c .before .before .before .before .before .before .before .if1 .taken) (c .before .before .before .before .read-accepted .ensures)
 
 returns-2 : tie.Need-returns-2
 returns-2 c =
     let a = c .before .before .before .before .before .before .args in
     let j = c .before .before .judge in
-    read-refused (a .n) (a .m0) (now (a .capture)) (now (a .info)) (now (a .parity)) (j .result) (j .ensures) (c .if1 .left)
+    read-refused (a .n) (a .m0) (now (a .capture)) (now (a .info)) (now (a .parity)) (j .ensures) (c .if1 .left)
 
 pub read-spec : {M : Type 1} → statement M
 read-spec =

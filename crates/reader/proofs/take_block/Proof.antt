@@ -1,5 +1,5 @@
 -- `reader::take_block` meets its contract. Assumes nothing.
-use Rattle.reading.specs.Parts.{blockTaken}
+use Rattle.reading.specs.Steps.{blockTaken}
 use borrow.Author.Needs.{needs}
 use Rattle.reader.proofs.take_block.Statement.{statement}
 use Rattle.reader.proofs.take_block.Tie as tie

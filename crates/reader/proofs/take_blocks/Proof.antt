@@ -1,7 +1,7 @@
 -- `reader::take_blocks` meets its contract. Assumes nothing.
 use Prim.Native.Nat.{_-_, _≤_}
 use Rattle.bits.proofs.LoopLaws.{Folded, loops}
-use Rattle.reading.specs.Parts.{blockTaken}
+use Rattle.reading.specs.Steps.{blockTaken}
 use Rattle.reader.proofs.take_blocks.Statement.{statement}
 use Rattle.reader.proofs.take_blocks.Tie as tie
 

@@ -1,7 +1,7 @@
 -- `reader::take_frame` meets its contract. Assumes nothing.
 use mathlib.Core.Path.{ap, _∙_}
 use denote.Ref.{now}
-use Rattle.reading.specs.Parts.{soughtOf}
+use Rattle.reading.specs.Steps.{soughtOf}
 use Rattle.reading.proofs.Blocks.{frame-more}
 use borrow.Author.Needs.{needs}
 use Rattle.reader.proofs.take_frame.Statement.{statement}

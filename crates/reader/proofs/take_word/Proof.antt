@@ -12,7 +12,7 @@ use Rattle.hamming.specs.Code.{checksOf}
 use Rattle.hamming.specs.Repair.{repairOf}
 use Rattle.line.specs.Slots.{holds}
 use Rattle.line_order.specs.Order.{wordIn}
-use Rattle.reading.specs.Parts.{soughtOf}
+use Rattle.reading.specs.Steps.{soughtOf}
 use Rattle.reading.proofs.Searching.{seen-le, word-more, beyond-is, filled-is, seen-as, plain-word}
 use borrow.Author.Needs.{needs}
 use Rattle.reader.proofs.take_word.Statement.{statement}

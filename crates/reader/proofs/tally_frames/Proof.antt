@@ -6,7 +6,7 @@ use denote.Ref.{now}
 use lib.ListN.{length}
 use borrow.Author.Needs.{needs}
 use Rattle.sizes.specs.Sizes.{superBytes}
-use Rattle.reading.specs.Parts.{framesTo}
+use Rattle.reading.specs.Steps.{framesTo}
 use Rattle.reading.proofs.Blocks.{frames-none}
 use Rattle.reader.proofs.tally_frames.Statement.{statement}
 use Rattle.reader.proofs.tally_frames.Tie as tie

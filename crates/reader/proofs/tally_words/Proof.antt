@@ -5,7 +5,7 @@ use denote.Ref.{now}
 use native.Mathlib.Omega.{arith}
 use borrow.Author.Needs.{needs}
 use Rattle.sizes.specs.Sizes.{longestWait, superElements}
-use Rattle.reading.specs.Parts.{wordsTo}
+use Rattle.reading.specs.Steps.{wordsTo}
 use Rattle.reading.proofs.Searching.{words-none}
 use Rattle.reader.proofs.tally_words.Statement.{statement}
 use Rattle.reader.proofs.tally_words.Tie as tie

@@ -8,7 +8,7 @@ use native.Mathlib.Omega.{arith}
 use denote.Ref.{now}
 use borrow.Author.Needs.{needs}
 use Rattle.bits.proofs.Lists.{Filled, filled-none, filled-all}
-use Rattle.reading.specs.Parts.{infoIn, parityIn}
+use Rattle.reading.specs.Steps.{infoIn, parityIn}
 use Rattle.reader.proofs.write_blocks.Statement.{statement}
 use Rattle.reader.proofs.write_blocks.Tie as tie
 

@@ -1,16 +1,12 @@
--- The steps of an edit as the code takes them: the tests in their order, a word made anew from its received bytes, and how far a pass has
--- come. Assumes nothing: these are definitions.
+-- The steps of an edit as the code takes them: a word made anew from its received bytes, and how far a pass has come. Assumes nothing: these are definitions.
 use Prim.Native.Nat.{ℕ, _+_, _-_, _*_, _/_, _%_, _≤_, _<_}
-use mathlib.Core.Bool.{false, cond, not}
+use mathlib.Core.Bool.{false, cond}
 use mathlib.Core.Path.{_≡_}
 use mathlib.Core.List.{List, _++_}
-use lib.Dec.{ltb, leb, eqb}
+use lib.Dec.{ltb}
 use lib.ListN.{length, set, drop}
 use Rattle.bits.specs.Bits.{digit, bitAt, pack}
 use Rattle.bits.specs.Loops.{count}
-use Rattle.answer.specs.Numbers.{outsideSet, wrongLength}
-use Rattle.answer.specs.Rows.{done, refused, bufferPlace}
-use Rattle.answer.specs.declared.Answer.{Answer}
 use Rattle.scrambler.specs.Scrambler.{o}
 use Rattle.hamming.specs.Code.{coded}
 use Rattle.matrix.specs.Sums.{tailTable}
@@ -21,20 +17,7 @@ use Rattle.line.specs.Slots.{elementIn}
 use Rattle.line_order.specs.Order.{laid, wordIn, putWord}
 use Rattle.editing.specs.Edit.{fecOf, inBlock, blockFrom, elementLocal, listed, picked, editedWord, spareSet}
 
--- ---- numbers 1 and 2, from the numbers and the four lengths alone
-
-unfoldable pub judged : ℕ → ℕ → ℕ → ℕ → ℕ → ℕ → Answer
-judged N b bits parity cap list =
-    cond (ltb N 1) (refused outsideSet 0)
-    (cond (ltb 8 N) (refused outsideSet 0)
-    (cond (leb (blocksOf N) b) (refused outsideSet 0)
-    (cond (not (eqb bits blockBytes)) (refused wrongLength (bufferPlace 1))
-    (cond (not (eqb parity parityBytes)) (refused wrongLength (bufferPlace 2))
-    (cond (not (eqb cap (captureLength N))) (refused wrongLength (bufferPlace 3))
-    (cond (not (eqb list listLength)) (refused wrongLength (bufferPlace 4))
-    (done 0)))))))
-
--- what a call has shown that none of the numbers 1 to 3 refuses
+-- ---- what a call has shown that none of the numbers 1 to 3 refuses
 pub record Accepted (N b : ℕ) (bits parity cap list : List ℕ) : Type 0 where
   pub some : 1 ≤ N
   pub few : N ≤ 8

@@ -1,20 +1,16 @@
 -- The steps on the way from an element to its word, as the code takes them. Assumes nothing: these are definitions.
 use Prim.Native.Nat.{ℕ, _+_, _-_, _*_, _/_, _%_, _<_}
-use mathlib.Core.Bool.{cond, not}
+use mathlib.Core.Bool.{cond}
 use mathlib.Core.Path.{_≡_}
 use mathlib.Core.List.{List}
-use lib.Dec.{ltb, eqb}
+use lib.Dec.{ltb}
 use lib.ListN.{getD, length}
 use Rattle.bits.specs.Bits.{digit, pack}
-use Rattle.answer.specs.Numbers.{outsideSet, wrongLength}
-use Rattle.answer.specs.Rows.{done, refused, bufferPlace}
-use Rattle.answer.specs.declared.Answer.{Answer}
 use Rattle.matrix.specs.Sums.{tailTable}
 use Rattle.lent.specs.Lent.{byteTable}
 use Rattle.scrambler.specs.Scrambler.{o}
-use Rattle.sizes.specs.Sizes.{elementBits, superElements, superBytes, infoLength, parityLength, captureLength, words}
-use Rattle.line.specs.Captures.{superAllowed}
-use Rattle.line.specs.Fec.{mbasAllowed, blockCrc}
+use Rattle.sizes.specs.Sizes.{crcBits, fecBlocks, elementBits, superElements, superBytes, infoLength, parityLength, captureLength}
+use Rattle.line.specs.Fec.{blockCrc}
 use Rattle.line.specs.Frames.{superOf}
 
 -- two bit functions agree on the 119 bits of an element
@@ -35,13 +31,14 @@ entry s k = getD s k 0
 
 -- the CRCs of the FEC blocks of N super frames
 pub record Crcs (N : ℕ) (info crcs : List ℕ) : Type 0 where
-  pub is : (t : ℕ) → t < 5 * N → getD crcs t 0 ≡ blockCrc info t
+  pub is : (t : ℕ) → t < fecBlocks * N → getD crcs t 0 ≡ blockCrc info t
 
 -- what a granted call has shown of its numbers and buffers
-pub record Granted (N : ℕ) (info par : List ℕ) : Type 0 where
+pub record Granted (N : ℕ) (info par cap : List ℕ) : Type 0 where
   pub few : N < 9
   pub information : length info ≡ infoLength N
   pub parity : length par ≡ parityLength N
+  pub capture : length cap ≡ captureLength N
 
 -- the same, with the tables that every word needs
 pub record Ready (N : ℕ) (info par crcs sequence table tails : List ℕ) : Type 0 where
@@ -50,13 +47,3 @@ pub record Ready (N : ℕ) (info par crcs sequence table tails : List ℕ) : Typ
   pub scrambles : sequence ≡ pack superBytes o
   pub checks : table ≡ byteTable
   pub closes : tails ≡ tailTable
-
--- the answer as the code finds it, from the numbers and the buffers' lengths
-unfoldable pub judged : ℕ → ℕ → ℕ → ℕ → ℕ → Answer
-judged N m0 info par cap =
-    cond (not (superAllowed N)) (refused outsideSet 0)
-    (cond (not (mbasAllowed m0)) (refused outsideSet 0)
-    (cond (not (eqb info (infoLength N))) (refused wrongLength (bufferPlace 1))
-    (cond (not (eqb par (parityLength N))) (refused wrongLength (bufferPlace 2))
-    (cond (not (eqb cap (captureLength N))) (refused wrongLength (bufferPlace 3))
-    (done (words N))))))

@@ -1,7 +1,7 @@
--- The parts in which the code reads a capture: what its private functions are asked and answer. Nothing public is stated in them; the laws
--- (`proofs/`) say that together they are `specs/Read`. Assumes nothing: these are definitions.
+-- The parts in which the code reads a capture: what its private functions are asked and answer. The laws (`proofs/`) say that together
+-- they are `specs/Read`. Assumes nothing: these are definitions.
 use Prim.Native.Nat.{ℕ, _+_, _-_, _*_, _/_, _%_, _<_}
-use mathlib.Core.Bool.{Bool, not, cond, _&&_}
+use mathlib.Core.Bool.{Bool, not, cond}
 use mathlib.Core.Path.{_≡_}
 use mathlib.Core.List.{List}
 use lib.Bits.{bitXor}
@@ -9,8 +9,8 @@ use lib.Dec.{ltb, eqb}
 use lib.ListN.{getD, length}
 use Rattle.bits.specs.Bits.{num, bitAt, pack, from}
 use Rattle.bits.specs.Loops.{first, count}
-use Rattle.answer.specs.Numbers.{outsideSet, wrongLength, beyondRepair, fillerNotZero, wrongMbas, wrongCrc, padNotZero}
-use Rattle.answer.specs.Rows.{done, refused, bufferPlace}
+use Rattle.answer.specs.Numbers.{beyondRepair, fillerNotZero, wrongMbas, wrongCrc, padNotZero}
+use Rattle.answer.specs.Rows.{done, refused}
 use Rattle.answer.specs.Outcomes.{written}
 use Rattle.answer.specs.declared.Answer.{Answer}
 use Rattle.crc.specs.Crc.{crcOf}
@@ -19,25 +19,14 @@ use Rattle.hamming.specs.Code.{joinedWord}
 use Rattle.matrix.specs.Sums.{positionTable}
 use Rattle.lent.specs.Lent.{byteTable}
 use Rattle.sizes.specs.Sizes.{infoBits, crcBits, mbasBits, parityBits, mbasFrom, parityFrom, fecBits, fecBlocks, padFrom, padBits, superBytes, infoLength, parityLength, captureLength, words}
-use Rattle.line.specs.Captures.{superAllowed}
-use Rattle.line.specs.Fec.{mbasAllowed, mbasOf}
+use Rattle.line.specs.Fec.{mbasOf}
 use Rattle.line.specs.Frames.{infoOf, parityOf}
 use Rattle.line.specs.Words.{superIn, fecIn}
 use Rattle.reading.specs.Read.{repaired, isBeyond, isFilled, mbasDiffers, crcDiffers, padDiffers, isSeen}
 use Rattle.reading.specs.declared.WordTally.{WordTally}
 use Rattle.reading.specs.declared.BlockTally.{BlockTally}
 
--- ---- numbers 1 and 2, from the numbers and the lengths of the buffers alone; else what comes next
-
-unfoldable pub judged : ℕ → ℕ → ℕ → ℕ → ℕ → Answer → Answer
-judged N m0 captureLen infoLen parityLen next =
-    cond (not (superAllowed N && mbasAllowed m0)) (refused outsideSet 0)
-    (cond (not (eqb captureLen (captureLength N))) (refused wrongLength (bufferPlace 1))
-    (cond (not (eqb infoLen (infoLength N))) (refused wrongLength (bufferPlace 2))
-    (cond (not (eqb parityLen (parityLength N))) (refused wrongLength (bufferPlace 3))
-    next)))
-
--- what it has shown where neither number is given
+-- ---- what `judge` has shown where it gives neither number 1 nor 2
 pub record Accepted (N : ℕ) (cap info par : List ℕ) : Type 0 where
   pub some : 0 < N
   pub few : N < 9
