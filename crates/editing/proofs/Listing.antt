@@ -5,13 +5,13 @@ use mathlib.Core.Path.{_≡_, refl, sym, ap, _∙_}
 use mathlib.Core.List.{List}
 use native.Mathlib.Decide.{decLt}
 use native.Mathlib.Omega.{arith}
-use borrow.Author.Tests.{leb-false, eqb-true, eq-eqb, lt-ltb, le-ltb, le-leb, lt-leb, not-true}
+use borrow.Author.Tests.{leb-false, eqb-true, eq-eqb, lt-ltb, le-ltb, lt-leb, not-true}
 use lib.Dec.{ltb, eqb}
 use Rattle.bits.specs.Loops.{count}
 use Rattle.bits.proofs.Common.{clash, and-left, and-right}
 use Rattle.hamming.specs.Code.{checksOf}
 use Rattle.line_order.specs.Order.{wordIn}
-use Rattle.sizes.specs.Sizes.{fecBlocks, elementBits, superElements, fecElements, infoElements, words, longestWait, blocksOf}
+use Rattle.sizes.specs.Sizes.{fecBlocks, elementBits, superElements, fecElements, infoElements, words, blocksOf}
 use Rattle.line.specs.Slots.{slotOf, delay, elementIn, holds}
 use Rattle.line.proofs.SlotLaws.{held}
 use Rattle.editing.specs.Edit.{fecOf, blockFrom, elementFec, elementLocal, isPad, touches, listed, fails}
@@ -185,17 +185,19 @@ listed-elsewhere N b w n = by (listed N b w) refl
     by false h = sym h
 
 -- one of the client block's FEC block, or filler
-listed-own : (N b w m : ℕ) → m < fecElements → elementIn w ≡ firstElement b + m → holds N w && touches b (elementBits * m) elementBits ≡ listed N b w
-unfolding listed
-listed-own N b w m l e =
-    let f = own-fec b m l in
-    rw (e, no-pad-test (firstElement b + m) (own-element b m l), f .1, eq-eqb (elementFec (firstElement b + m)) (fecOf b) (f .0), and-true (holds N w))
+module _ (N b w m : ℕ) (l : m < fecElements) (e : elementIn w ≡ firstElement b + m) where
+  listed-own : holds N w && touches b (elementBits * m) elementBits ≡ listed N b w
+  unfolding listed
+  listed-own =
+      let f = own-fec b m l in
+      let pad = no-pad-test (firstElement b + m) (own-element b m l) in
+      rw (e, pad, f .1, eq-eqb (elementFec (firstElement b + m)) (fecOf b) (f .0), and-true (holds N w), and-true (holds N w))
 
-pub listed-untouched : (N b w m : ℕ) → m < fecElements → elementIn w ≡ firstElement b + m → touches b (elementBits * m) elementBits ≡ false → false ≡ listed N b w
-listed-untouched N b w m l e h = sym (and-false (holds N w)) ∙ rw (← h) (listed-own N b w m l e)
+  pub listed-untouched : touches b (elementBits * m) elementBits ≡ false → false ≡ listed N b w
+  listed-untouched h = sym (and-false (holds N w)) ∙ rw (← h) listed-own
 
-pub listed-touched : (N b w m : ℕ) → m < fecElements → elementIn w ≡ firstElement b + m → touches b (elementBits * m) elementBits ≡ true → holds N w ≡ listed N b w
-listed-touched N b w m l e h = sym (and-true (holds N w)) ∙ rw (← h) (listed-own N b w m l e)
+  pub listed-touched : touches b (elementBits * m) elementBits ≡ true → holds N w ≡ listed N b w
+  listed-touched h = sym (and-true (holds N w)) ∙ rw (← h) listed-own
 
 -- ---- the stretch of words that can be listed
 

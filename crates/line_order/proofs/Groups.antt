@@ -1,8 +1,7 @@
 -- Eight words as a group: laid out and taken back, and a group as a part of a capture. Assumes nothing.
-use Prim.Native.Nat.{ℕ, _+_, _*_, _<_}
+use Prim.Native.Nat.{ℕ, _*_, _<_}
 use mathlib.Core.Path.{_≡_, refl, sym, ap, _∙_}
 use mathlib.Core.List.{List, []}
-use native.Mathlib.Omega.{arith}
 use lib.ListN.{length, getD}
 use Rattle.bits.specs.Bits.{tabulate, from}
 use Rattle.bits.specs.Loops.{upto}
@@ -35,7 +34,8 @@ pub group-put : (words : List (List ℕ)) (s : List ℕ) → length s ≡ groupS
 group-put words s long = each-laidBy lineOrder groupWords groupSize eight refl (λ w v. wordOf words w) s long
 
 -- group g of the words W is a part of them laid out
-pub group-laid : (W : ℕ → List ℕ) (g : ℕ) → laidGroup (tabulate groupWords (from W (groupWords * g))) ≡ tabulate groupSize (from (byteBy lineOrder W) (groupSize * g))
+pub group-laid : (W : ℕ → List ℕ) (g : ℕ)
+    → laidGroup (tabulate groupWords (from W (groupWords * g))) ≡ tabulate groupSize (from (byteBy lineOrder W) (groupSize * g))
 unfolding laidBy byteBy lineOrder
 group-laid W g =
     tabulate-ext groupSize (byteBy lineOrder (wordOf (tabulate groupWords (from W (groupWords * g))))) (from (byteBy lineOrder W) (groupSize * g))

@@ -49,7 +49,8 @@ unfolding symbolBy lineOrder
 loop-again c =
     let h = c .before .before .before .loop in
     let a = c .before .before .before .before .before .args in
-    let e : groupSize * (a .w / groupWords) + c .before .in-group .result ≡ symbolPlace (a .w) (h .k) = rw (c .before .in-group .ensures) (place-group (a .w) (h .k)) in
+    let g = c .before .in-group in
+    let e : groupSize * (a .w / groupWords) + g .result ≡ symbolPlace (a .w) (h .k) = rw (g .ensures) (place-group (a .w) (h .k)) in
     filled-more (h .inv) (c .before .before .loop-test .taken) (ap (λ (x : ℕ). getD (now (a .capture)) x 0) e)
 
 returns : tie.Need-returns Inv-loop μ-loop
