@@ -1,6 +1,5 @@
 -- A capture with the chosen bits turned, word by word, as the code does it. Assumes nothing: these are definitions.
-use Prim.Native.Nat.{ℕ, _/_, _<_}
-use mathlib.Core.Path.{_≡_}
+use Prim.Native.Nat.{ℕ, _/_}
 use mathlib.Core.List.{List}
 use lib.ListN.{length}
 use Rattle.bits.specs.Loops.{upto}
@@ -16,8 +15,3 @@ hurtBy flips w v = hurt v (choiceOf flips w)
 -- all words, one after the other
 unfoldable pub hurtBytes : List ℕ → List ℕ → List ℕ
 hurtBytes flips cap = upto (replaceBy lineOrder (hurtBy flips)) cap (length cap / wordBytes)
-
--- what `choice` answers: the number, which is a byte's
-pub record Chosen (flips : List ℕ) (w r : ℕ) : Type 0 where
-  pub is : r ≡ choiceOf flips w
-  pub small : r < 256

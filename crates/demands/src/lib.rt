@@ -10,8 +10,8 @@ ghost use Rattle.coder.specs.Code.{codeRows};
 ghost use Rattle.reading.specs.Read.{readRows};
 ghost use Rattle.editing.specs.Edit.{editRows};
 ghost use Rattle.capture.specs.Damage.{hurt};
-ghost use Rattle.demands.specs.Demands.{Refuses, Demand2, Demand3};
-ghost use Rattle.demands.specs.Hurt.{hurtBytes, Chosen};
+ghost use Rattle.demands.specs.Demands.{Refuses, choiceOf, Demand2, Demand3};
+ghost use Rattle.demands.specs.Hurt.{hurtBytes};
 
 // Demand 1 of coding.
 pub fn code(n: u64, m0: u64, info: &[u8], parity: &[u8], capture: &mut [u8]) -> Answer
@@ -88,7 +88,7 @@ fn hurt_word(v: [u8; 16], p: usize) -> [u8; 16]
 
 // The bit chosen for word w, or none.
 fn choice(flips: &[u8], w: usize) -> usize
-    ensures { λ r. ⌜ Chosen (now (flips .entry)) w r ⌝ }
+    ensures { λ r. ⌜ r ≡ choiceOf (now (flips .entry)) w ⌝ }
 {
     if w < flips.len() {
         return bits::wide(flips[w]) as usize;

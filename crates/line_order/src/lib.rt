@@ -113,8 +113,8 @@ fn put_inside(capture: &mut [u8], w: usize, v: [u8; 16])
 {
     let group = sizes::GROUP_BYTES * (w / sizes::GROUP_WORDS);
     let j = w % sizes::GROUP_WORDS;
-    for k in 0..16 {
-        capture[group + in_group(j, k)] = v[k];
+    for s in 0..16 {
+        capture[group + in_group(j, s)] = v[s];
     }
 }
 

@@ -11,10 +11,11 @@ use Rattle.line_order.proofs.put_inside.Statement.{statement}
 use Rattle.line_order.proofs.put_inside.Tie as tie
 
 abbrev Inv-loop : tie.InvT-loop
-Inv-loop capture₀ w v group j k₀ capture k = Folded (putSymbolBy lineOrder w v) capture₀ k capture × (length capture ≡ length capture₀) × (k ≤ 16)
+Inv-loop capture₀ w v group j s₀ capture s =
+    Folded (putSymbolBy lineOrder w v) capture₀ s capture × (length capture ≡ length capture₀) × (s ≤ 16)
 
 abbrev μ-loop : tie.MeasureT-loop
-μ-loop capture₀ w v group j k₀ capture k = 16 - k
+μ-loop capture₀ w v group j s₀ capture s = 16 - s
 
 mul-group : tie.Need-mul-group Inv-loop μ-loop
 mul-group c = omega arith
@@ -36,8 +37,8 @@ slice-write-capture : tie.Need-slice-write-capture Inv-loop μ-loop
 unfolding symbolPlace
 slice-write-capture c = omega (arith, c .in-group .ensures)
 
-add-k : tie.Need-add-k Inv-loop μ-loop
-add-k c = omega arith
+add-s : tie.Need-add-s Inv-loop μ-loop
+add-s c = omega arith
 
 loop-less : tie.Need-loop-less Inv-loop μ-loop
 loop-less c = omega arith
@@ -47,8 +48,8 @@ unfolding putSymbolBy lineOrder
 loop-again c =
     let l = c .before .before .loop in
     let a = c .before .before .before .before .args in
-    let e : groupSize * (a .w / groupWords) + c .in-group .result ≡ symbolPlace (a .w) (l .k) = rw (c .in-group .ensures) (place-group (a .w) (l .k)) in (
-      folded-more (l .inv .0) (ap (λ (x : ℕ). set (l .capture) x (getD (a .t3) (l .k) 0)) e),
+    let e : groupSize * (a .w / groupWords) + c .in-group .result ≡ symbolPlace (a .w) (l .s) = rw (c .in-group .ensures) (place-group (a .w) (l .s)) in (
+      folded-more (l .inv .0) (ap (λ (x : ℕ). set (l .capture) x (getD (a .t3) (l .s) 0)) e),
       simp length-set (l .inv .1),
       omega arith,
     )
@@ -72,7 +73,7 @@ put-inside-spec =
     in-group-requires
     add-capture
     slice-write-capture
-    add-k
+    add-s
     loop-less
     loop-again
     same-length
