@@ -12,7 +12,7 @@ use lib.ListN.{length}
 use Rattle.bits.specs.Loops.{first}
 use Rattle.bits.proofs.Common.{and-left, and-right}
 use Rattle.bits.proofs.LoopLaws.{first-is, first-none}
-use Rattle.answer.specs.Numbers.{allDone}
+use Rattle.answer.specs.Numbers.{allDone, wrongLength}
 use Rattle.answer.specs.Rows.{Row, whole, buffers, each, done, refused, wrong, bufferPlace, faultAt}
 use Rattle.answer.specs.Rows.{rowNumber, placesOf, holdsAt, firstOf, answerOf, rising}
 use Rattle.answer.specs.Steps.{faultsThen, rowThen, inTurn, NoFault, RowPassed, Passed}
@@ -75,6 +75,10 @@ pub in-turn : (rows : List Row) (c : ℕ) → answerOf rows c ≡ inTurn rows (d
 unfolding inTurn answerOf
 in-turn [] c = refl
 in-turn (r ∷ rows) c = row-then r rows c ∙ ap (rowThen r) (in-turn rows c)
+
+-- a call that tests in turn answers by its table
+pub by-turns : (rows : List Row) (c : ℕ) {r : Answer} → r ≡ inTurn rows (done c) → r ≡ answerOf rows c
+by-turns rows c e = e ∙ sym (in-turn rows c)
 
 -- ---- some rows first, the others later
 
@@ -143,6 +147,10 @@ passed-from a (r ∷ rows) x e z =
 pub passed : (rows : List Row) (x : Answer) {r : Answer} → rising 0 rows ≡ true → r ≡ inTurn rows x → r .number ≡ allDone → Passed rows
 passed rows x rise e z = passed-from 0 rows x rise (ap (λ (y : Answer). y .number) (sym e) ∙ z)
 
+-- the same of a call that answers by its table
+pub granted-passed : (rows : List Row) (c : ℕ) {r : Answer} → rising 0 rows ≡ true → r ≡ answerOf rows c → r .number ≡ allDone → Passed rows
+granted-passed rows c rise e z = passed rows (done c) rise (e ∙ in-turn rows c) z
+
 -- ---- and then the others decide
 
 no-fault : (k : ℕ) (bs : List Bool) (i : ℕ) (x : Answer) → NoFault bs → faultsThen k bs i x ≡ x
@@ -180,3 +188,29 @@ length-right {stated} {long} e = rw (eq-eqb long stated e)
 -- a row that holds nowhere
 pub none-there : (n : ℕ) (h : ℕ → Bool) → ((p : ℕ) → p < n → h p ≡ false) → ltb (first h n) n ≡ false
 none-there n h e = rw (first-none h n e) (le-ltb n n (omega arith))
+
+-- ---- the returns of a call that tests in turn, from what the functions that it called ensure: `search turns`
+
+module _ {a : Answer} where
+  -- the first row holds, and the call returns early
+  pub turn-refused : (k : ℕ) (b : Bool) (rows : List Row) (c : ℕ) {o : Bool} → o ≡ b → o ≡ true → a ≡ refused k 0 → a ≡ answerOf (whole k b ∷ rows) c
+  turn-refused k b rows c p q e = e ∙ rw (row-whole k b rows c, ← p, q)
+
+  -- it does not, and the others decide
+  pub turn-passed : (k : ℕ) (b : Bool) (rows : List Row) (c : ℕ) {o : Bool} → o ≡ b → o ≡ false → a ≡ answerOf rows c → a ≡ answerOf (whole k b ∷ rows) c
+  turn-passed k b rows c p q e = e ∙ rw (row-whole k b rows c, ← p, q)
+
+  -- there are no others
+  pub turn-done : (c : ℕ) {n : ℕ} → a ≡ done n → n ≡ c → a ≡ answerOf [] c
+  unfolding answerOf
+  turn-done c e h = e ∙ rw h
+
+  -- `refuse_if` and `refuse_length`
+  pub turn-test : (k : ℕ) {x y : Answer} {t u : Bool} {p q : ℕ} → a ≡ cond t (refused k p) y → t ≡ u → p ≡ q → y ≡ x → a ≡ cond u (refused k q) x
+  turn-test k e h i j = e ∙ rw (h, i, j)
+
+  pub turn-length : (i long : ℕ) {x y : Answer} {s t : ℕ} → a ≡ cond (wrong s long) (refused wrongLength (bufferPlace i)) y → s ≡ t → y ≡ x
+      → a ≡ cond (wrong t long) (refused wrongLength (bufferPlace i)) x
+  turn-length i long e h j = e ∙ rw (h, j)
+
+pub ruleset turns = (turn-refused, turn-passed, turn-done, turn-test, turn-length)

@@ -1,10 +1,10 @@
 -- An argument as a number: one or more decimal digits and nothing else. Assumes nothing: these are definitions.
-use Prim.Native.Nat.{ℕ, suc, _+_, _-_, _*_, min}
+use Prim.Native.Nat.{ℕ, min}
 use mathlib.Core.Bool.{Bool, cond, not, _||_}
 use mathlib.Core.List.{List}
-use lib.Dec.{ltb, eqb}
-use lib.ListN.{length, getD}
-use Rattle.count_line.specs.Lines.{isDigit, allDigits, decimal}
+use lib.Dec.{eqb}
+use lib.ListN.{length}
+use Rattle.decimal.specs.Digits.{allDigits, decimal}
 use Rattle.arguments.specs.declared.Number.{Number}
 use Rattle.arguments.specs.declared.Number.the-variants.{Is, Not}
 
@@ -18,11 +18,3 @@ noNumber s = eqb (length s) 0 || not (allDigits s (length s))
 -- what the argument s is
 unfoldable pub numberOf : List ℕ → Number
 numberOf s = cond (noNumber s) Not (Is (min (decimal s (length s)) most))
-
--- ---- read a byte at a time: `suc most` stands for no number
-
-unfoldable pub stepOf : ℕ → ℕ → ℕ
-stepOf v b = cond (ltb most v) (suc most) (cond (isDigit b) (min (v * 10 + (b - 48)) most) (suc most))
-
-abbrev pub stepAt : List ℕ → ℕ → ℕ → ℕ
-stepAt s k v = stepOf v (getD s k 0)

@@ -1,8 +1,9 @@
--- Small laws that several crates cite: one answer only, tests that hold together, or do not, a number below a bound or not, two functions that one test
--- finds equal, and an xor that is zero. Assumes nothing.
-use Prim.Native.Nat.{ℕ, _<_, _≤_}
-use mathlib.Core.Bool.{Bool, true, false, _&&_, _||_}
+-- Small laws that several crates cite: one answer only, tests that hold together, or do not, a bit chosen or multiplied, a number below a bound or not, two functions
+-- that one test finds equal, and an xor that is zero. Assumes nothing.
+use Prim.Native.Nat.{ℕ, zero, suc, _*_, _%_, _<_, _≤_}
+use mathlib.Core.Bool.{Bool, true, false, cond, _&&_, _||_}
 use mathlib.Core.Path.{_≡_, refl, sym, ap, _∙_}
+use native.Mathlib.Nat.{zero-mul, one-mul}
 use native.Mathlib.Decide.{decLt}
 use native.Mathlib.Omega.{arith}
 use lib.Bits.{bitXor, xor-zero-l}
@@ -46,6 +47,21 @@ same-test a b x y p q = by (ltb a b) (ltb x y) refl refl
     by false false e h = refl
     by true false e h = absurd (omega (arith, p (ltb-true a b e), ltb-false x y h))
     by false true e h = absurd (omega (arith, q (ltb-true x y h), ltb-false a b e))
+
+-- one of two bits is a bit
+pub cond-bit : (t : Bool) (x y : ℕ) → x < 2 → y < 2 → cond t x y < 2
+cond-bit true x y p q = p
+cond-bit false x y p q = q
+
+-- a bit times a number below n is below n
+pub bit-times : (b c n : ℕ) → b < 2 → c < n → b * c < n
+bit-times zero c n h k = rw zero-mul (omega arith)
+bit-times (suc zero) c n h k = rw one-mul k
+bit-times (suc (suc b)) c n h k = absurd (omega arith)
+
+-- what is not even is odd
+pub odd-of : (x : ℕ) → (x % 2 ≡ 0 → ⊥) → x % 2 ≡ 1
+odd-of x h = omega arith
 
 -- a number is below n, or not
 bound-at : {A : Type 0} (n i : ℕ) → (i < n → A) → (n ≤ i → A) → Dec (i < n) → A

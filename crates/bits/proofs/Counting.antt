@@ -13,6 +13,12 @@ unfolding count
 count-ext p q zero h = refl
 count-ext p q (suc n) h = rw (h n (omega arith), count-ext p q n (λ k l. h k (omega arith)))
 
+-- none below n is picked
+pub count-none : (p : ℕ → Bool) (n : ℕ) → ((k : ℕ) → k < n → p k ≡ false) → count p n ≡ 0
+unfolding count
+count-none p zero h = refl
+count-none p (suc n) h = rw (h n (omega arith)) (count-none p n (λ k l. h k (omega arith)))
+
 count-step : (b : Bool) (c n : ℕ) → c ≤ n → cond b (suc c) c ≤ suc n
 count-step true c n h = omega arith
 count-step false c n h = omega arith

@@ -114,3 +114,7 @@ filled-here {A} x {i} {f} {d} {out} e = rw (e .is) (at-length (tabulate i f) (le
 pub filled-at : {A : Type 0} (x : A) {i j : ℕ} {f : ℕ → A} {d out : List A} → Filled i f d out → j < i → getD out j x ≡ f j
 filled-at {A} x {i} {j} {f} {d} {out} e l =
     rw (e .is) (List·getD-append (tabulate i f) (drop i d) x j (rw length-tabulate l) ∙ getD-tabulate x i f j l)
+
+-- a part that lies in the list has its length
+pub part-long : (a k : ℕ) (s : List ℕ) → a + k ≤ length s → length (take k (drop a s)) ≡ k
+part-long a k s h = simp (length-take, length-drop) (omega arith)

@@ -4,7 +4,7 @@ ghost use Prim.Native.Nat.{_%_};
 ghost use mathlib.Core.List.{[], _∷_};
 ghost use lib.ListN.{getD};
 ghost use Rattle.bits.specs.Bits.{num, bitAt};
-ghost use Rattle.bits.specs.Posts.{Widened};
+ghost use Rattle.bits.specs.Steps.{Widened};
 
 // Byte k of the bytes s; 0 past the end.
 pub fn byte_at(s: &[u8], k: usize) -> u8

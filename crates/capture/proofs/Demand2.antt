@@ -3,7 +3,7 @@
 use Prim.Native.Nat.{ℕ, _+_, _-_, _*_, _^_, _<_}
 use mathlib.Core.Bool.{Bool, true, false, cond, not, _&&_}
 use mathlib.Core.Path.{_≡_, refl, sym, ap, _∙_}
-use mathlib.Core.List.{List, [], _∷_}
+use mathlib.Core.List.{List}
 use native.Mathlib.Omega.{arith}
 use borrow.Author.Tests.{ltb-true, eq-eqb, ne-eqb}
 use lib.Dec.{ltb, eqb}
@@ -12,10 +12,10 @@ use Rattle.bits.specs.Bits.{num, Bits}
 use Rattle.bits.specs.Loops.{count}
 use Rattle.bits.proofs.Numbers.{num-is, num-zero}
 use Rattle.bits.proofs.Counting.{count-ext}
-use Rattle.answer.specs.Numbers.{wrongLength}
-use Rattle.answer.specs.Rows.{Row, done, answerOf, buffers}
+use Rattle.answer.specs.Rows.{done}
+use Rattle.answer.specs.Steps.{NoFault, RowPassed, Passed}
 use Rattle.answer.specs.declared.Answer.{Answer}
-use Rattle.answer.proofs.Table.{row-none, row-buffers, inTurn}
+use Rattle.answer.proofs.Turns.{early-passed, all-passed, length-right, none-there}
 use Rattle.answer.proofs.Meets.{written-done}
 use Rattle.crc.specs.Crc.{crcOf}
 use Rattle.crc.proofs.Changes.{crc-ext, crc-lt}
@@ -26,8 +26,8 @@ use Rattle.hamming.proofs.Words.{coded-checks}
 use Rattle.hamming.proofs.Turning.{turn-long}
 use Rattle.hamming.proofs.Repairs.{none-kept, one-seen, one-repaired}
 use Rattle.sizes.specs.Sizes.{infoBits, crcBits, mbasBits, mbasFrom, parityFrom, fecBits, fecBlocks, padFrom, padBits, infoLength, parityLength, captureLength, words}
-use Rattle.line.specs.Captures.{wrong}
-use Rattle.line.specs.Fec.{mbasOf, infoBit, blockCrc, fecBit}
+use Rattle.line.specs.Captures.{superAllowed}
+use Rattle.line.specs.Fec.{mbasAllowed, mbasOf, infoBit, blockCrc, fecBit}
 use Rattle.line.specs.Frames.{superOf, elementOf, infoOf, parityOf}
 use Rattle.line.specs.Slots.{holds, slotBit}
 use Rattle.line_order.specs.Order.{wordIn}
@@ -37,8 +37,8 @@ use Rattle.line.proofs.FrameLaws.{super-pad}
 use Rattle.line_order.proofs.OrderLaws.{length-laid, word-laid}
 use Rattle.coder.specs.Code.{captureOf}
 use Rattle.coder.proofs.Coding.{word-filler}
-use Rattle.reading.specs.Read.{repaired, allZero, isBeyond, isFilled, mbasDiffers, crcDiffers, padDiffers, isSeen, readRows, readAnswer, readLeaves}
-use Rattle.capture.specs.Damage.{Input, Choice, chosen, hurt, damaged, howMany}
+use Rattle.reading.specs.Read.{repaired, allZero, isBeyond, isFilled, mbasDiffers, crcDiffers, padDiffers, isSeen, readEarlyRows, readLateRows, readAnswer, readLeaves}
+use Rattle.capture.specs.Demand2.{Input, Choice, chosen, hurt, damaged, howMany, Demand2}
 use Rattle.capture.proofs.ReadLaws.{words-long, held-bits, super-read, fec-read}
 
 -- ---- a code word with at most one bit turned
@@ -67,14 +67,6 @@ hurt-word v p long clean =
 zeros : allZero (replicate 16 0) ≡ true
 unfolding allZero
 zeros = refl
-
-pub none-left : (c : ℕ) → answerOf [] c ≡ done c
-unfolding answerOf
-none-left c = refl
-
-pub right : (n : ℕ) (s : List ℕ) → length s ≡ n → wrong n s ≡ false
-unfolding wrong
-right n s e = ap not (eq-eqb (length s) n e)
 
 -- ---- the damaged capture, read
 
@@ -174,25 +166,32 @@ module _ (N m0 : ℕ) (info par : List ℕ) (flips : Choice) where
     unfolding damaged
     cap-long = length-laid N (λ w. hurt (wordIn (captureOf N m0 info par) w) (flips w))
 
-    pub lengths-right : (rows : List Row) (c : ℕ)
-        → answerOf (buffers wrongLength (wrong (captureLength N) cap ∷ wrong (infoLength N) info₀ ∷ wrong (parityLength N) par₀ ∷ []) ∷ rows) c ≡ answerOf rows c
-    unfolding inTurn
-    lengths-right rows c =
-        row-buffers wrongLength (wrong (captureLength N) cap ∷ wrong (infoLength N) info₀ ∷ wrong (parityLength N) par₀ ∷ []) rows c
-        ∙ rw (right (captureLength N) cap cap-long, right (infoLength N) info₀ info₀-long, right (parityLength N) par₀ par₀-long)
+    -- numbers 1 and 2 do not apply, whatever the first number is that is read with
+    pub early-passed-by : (m1 : ℕ) → mbasAllowed m1 ≡ true → Passed (readEarlyRows N m1 (length cap) (length info₀) (length par₀))
+    unfolding readEarlyRows Passed RowPassed NoFault
+    early-passed-by m1 e =
+        let inside : not (superAllowed N && mbasAllowed m1) ≡ false = rw (input .frames, e) in
+        (inside, ((length-right cap-long, (length-right info₀-long, (length-right par₀-long, tt))), tt))
+
+    late-passed : Passed (readLateRows N m0 cap)
+    unfolding readLateRows Passed RowPassed
+    late-passed = (
+      none-there (words N) (isBeyond cap) no-4,
+      (
+        none-there (words N) (isFilled N cap) no-5,
+        (
+          none-there (fecBlocks * N) (mbasDiffers m0 cap) no-6,
+          (none-there (fecBlocks * N) (crcDiffers cap) no-7, (none-there N (padDiffers cap) no-8, tt)),
+        ),
+      ),
+    )
 
     pub answers-done : readAnswer N m0 cap info₀ par₀ ≡ done (howMany N flips)
-    unfolding readAnswer readRows
+    unfolding readAnswer
     answers-done =
         let c = count (isSeen cap) (words N) in
-        row-none _ _ c (λ p l. rw (input .frames, input .number))
-        ∙ lengths-right _ c
-        ∙ row-none _ _ c no-4
-        ∙ row-none _ _ c no-5
-        ∙ row-none _ _ c no-6
-        ∙ row-none _ _ c no-7
-        ∙ row-none _ _ c no-8
-        ∙ none-left c
+        early-passed (readEarlyRows N m0 (length cap) (length info₀) (length par₀)) (readLateRows N m0 cap) c (early-passed-by m0 (input .number))
+        ∙ all-passed (readLateRows N m0 cap) c late-passed
         ∙ ap done counted
 
     info-read : infoOf N (fecIn (repaired cap)) ≡ info
@@ -214,12 +213,6 @@ module _ (N m0 : ℕ) (info par : List ℕ) (flips : Choice) where
 
 -- ---- the theorem
 
--- what reading a damaged capture must come to, whatever the two buffers held before
-pub record ReadBack (N m0 : ℕ) (info par cap : List ℕ) (seen : ℕ) : Type 0 where
-  pub answer : (info₀ par₀ : List ℕ) → length info₀ ≡ infoLength N → length par₀ ≡ parityLength N → readAnswer N m0 cap info₀ par₀ ≡ done seen
-  pub leaves : (info₀ par₀ : List ℕ) → length info₀ ≡ infoLength N → length par₀ ≡ parityLength N → readLeaves N m0 cap info₀ par₀ ≡ (info, par)
-
-pub demand-2 : (N m0 : ℕ) (info par : List ℕ) → Input N m0 info par → (flips : Choice)
-    → ReadBack N m0 info par (damaged N flips (captureOf N m0 info par)) (howMany N flips)
-demand-2 N m0 info par input flips =
-    record { answer = answers-done N m0 info par flips input; leaves = leaves-input N m0 info par flips input }
+pub demand-2 : (N m0 : ℕ) (info par : List ℕ) → Input N m0 info par → (flips : Choice) → Demand2 N m0 info par flips
+demand-2 N m0 info par input flips info₀ par₀ i₀ p₀ =
+    record { answer = answers-done N m0 info par flips input info₀ par₀ i₀ p₀; buffers = leaves-input N m0 info par flips input info₀ par₀ i₀ p₀ }

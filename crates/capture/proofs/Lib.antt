@@ -1,7 +1,9 @@
 -- The demands, proved of the definitions.
+pub mod Allowed
 pub mod Parting
 pub mod ReadLaws
 pub mod Demand2
+pub mod Undamaged
+pub mod EditLaws
 pub mod Demand3
-pub mod Demands
 pub mod Unique

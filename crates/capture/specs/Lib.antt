@@ -1,4 +1,4 @@
 -- The customer's demands on captures.
 pub mod Part
-pub mod Damage
-pub mod Edits
+pub mod Demand2
+pub mod Demand3

@@ -23,16 +23,11 @@ pub fn information(n: u64, t: u64, info: &[u8]) -> &[u8]
 pub fn information_answer(n: u64, t: u64, info: &[u8]) -> Answer
     ensures { λ r. ⌜ r ≡ partAnswer n t (now (info .entry)) ⌝ }
 {
-    if !line::super_allowed(n) {
+    if !line::one_of(n, sizes::FEC_BLOCKS as u32, t) {
         return answer::refuse(answer::OUTSIDE_SET, 0);
     }
-    if sizes::FEC_BLOCKS as u64 * n <= t {
-        return answer::refuse(answer::OUTSIDE_SET, 0);
-    }
-    if info.len() as u64 != sizes::SUPER_INFO_BYTES as u64 * n {
-        return answer::refuse(answer::WRONG_LENGTH, answer::buffer_place(1));
-    }
-    answer::granted(0)
+    let stated = sizes::SUPER_INFO_BYTES as u64 * n;
+    answer::refuse_length(1, info.len() as u64, stated, answer::granted(0))
 }
 
 // Codes n super frames whose FEC blocks count from m0 on. The count is the number of words written.

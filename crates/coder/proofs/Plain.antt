@@ -9,8 +9,9 @@ use lib.Seq.{getD-take, getD-drop}
 use Rattle.bits.specs.Bits.{bitAt, pack, from, Bits, Bytes}
 use Rattle.bits.proofs.Packing.{bitOf-lt, bitOf-packs, bitOf-part, bitOf-zeros}
 use Rattle.bits.proofs.Common.{by-bound}
+use Rattle.bits.proofs.Lists.{part-long}
 use Rattle.crc.specs.Crc.{crcOf}
-use Rattle.crc.specs.ByBytes.{entries, crcBy}
+use Rattle.crc.specs.Steps.{entries, crcBy}
 use Rattle.crc.proofs.Changes.{crc-ext}
 use Rattle.crc.proofs.Bytewise.{bytes-crc}
 use Rattle.sizes.specs.Sizes.{infoBits, mbasFrom, parityBits, parityFrom, fecBits, elementBits, superElements, fecElements, infoBytes, infoElements}
@@ -110,9 +111,6 @@ module _ (m0 : ℕ) (info par r : List ℕ) (e : ℕ) (no-pad : e % superElement
 
 -- ---- the CRC of a block's part of the information
 
-part-long : (s : List ℕ) (a n : ℕ) → a + n ≤ length s → length (take n (drop a s)) ≡ n
-part-long s a n h = simp (length-take, length-drop) (omega arith)
-
 part-bytes : (s : List ℕ) (a n : ℕ) → Bytes s → Bytes (take n (drop a s))
 part-bytes s a n h k = by-bound n k (λ l. rw (getD-take n (drop a s) k 0 l, getD-drop a s k 0) (h (a + k))) (λ l. rw (List·getD-eq-default (take n (drop a s)) 0 (short l)) (omega arith))
   where
@@ -123,7 +121,7 @@ pub block-part : (table info : List ℕ) (t n : ℕ) → table ≡ entries → B
 unfolding blockCrc infoBit
 block-part table info t n e b h p =
     let part = take n (drop (infoBytes * t) info) in
-    let long : 8 * length part ≡ infoBits = rw (part-long info (infoBytes * t) n (omega arith)) (omega arith) in
+    let long : 8 * length part ≡ infoBits = rw (part-long (infoBytes * t) n info (omega arith)) (omega arith) in
     bytes-crc table part e (part-bytes info (infoBytes * t) n b)
     ∙ ap (λ (m : ℕ). crcOf m (bitAt part)) long
     ∙ crc-ext infoBits (bitAt part) (λ i. bitAt info (infoBits * t + i))

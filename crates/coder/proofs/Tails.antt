@@ -9,6 +9,7 @@ use borrow.Author.Tests.{lt-ltb, le-ltb}
 use lib.Dec.{ltb}
 use Rattle.bits.specs.Bits.{num, digit, bitAt, from, Bits}
 use Rattle.bits.proofs.Numbers.{num-ext, num-split, num-front, num-is, num-part, digit-lt}
+use Rattle.bits.proofs.Common.{cond-bit}
 use Rattle.coder.specs.Steps.{tailBit}
 
 module _ (crc mbas : ℕ) (p : ℕ → ℕ) where
@@ -26,11 +27,7 @@ module _ (crc mbas : ℕ) (p : ℕ → ℕ) where
 
   pub tail-bits : Bits p → Bits (tailBit crc mbas p)
   unfolding tailBit
-  tail-bits b i = pick (ltb i 32) _ _ (digit-lt 32 crc i) (pick (ltb i 38) _ _ (digit-lt 6 mbas (i - 32)) (b (i - 38)))
-    where
-      pick : (t : Bool) (x y : ℕ) → x < 2 → y < 2 → cond t x y < 2
-      pick true x y hx hy = hx
-      pick false x y hx hy = hy
+  tail-bits b i = cond-bit (ltb i 32) _ _ (digit-lt 32 crc i) (cond-bit (ltb i 38) _ _ (digit-lt 6 mbas (i - 32)) (b (i - 38)))
 
   -- the first four bytes
   pub byte-crc : (k : ℕ) → k < 4 → crc < 2 ^ 32 → crc / 2 ^ (24 - 8 * k) % 256 ≡ num 8 (tailBit crc mbas p) (8 * k)

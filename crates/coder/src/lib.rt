@@ -6,7 +6,7 @@ ghost use lib.ListN.{length};
 ghost use Rattle.bits.specs.Bits.{tabulate, bitAt, byteOf, pack, from};
 ghost use Rattle.answer.specs.Outcomes.{Outcome};
 ghost use Rattle.answer.specs.Rows.{answerOf};
-ghost use Rattle.crc.specs.ByBytes.{entries};
+ghost use Rattle.crc.specs.Steps.{entries};
 ghost use Rattle.sizes.specs.Sizes.{infoBytes, fecBlocks, superElements, infoLength, captureLength, words};
 ghost use Rattle.line.specs.Fec.{fecBit, blockCrc};
 ghost use Rattle.line.specs.Words.{wordsOf};

@@ -1,5 +1,4 @@
 -- The laws of `specs/`.
 pub mod Stepping
-pub mod Digits
 pub mod Whole
 pub mod Unique

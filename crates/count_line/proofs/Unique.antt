@@ -7,14 +7,14 @@ use Rattle.count_line.proofs.start.Reads as start
 use Rattle.count_line.proofs.more.Reads as more
 use Rattle.count_line.proofs.so_far.Reads as so-far
 
-pub only-count : (κs : _) (a : _) (x y : _) (s t : _) → count-of.Post κs a x s → count-of.Post κs a y t → x ≡ y
-only-count κs a x y s t p q = only p q
+pub one-count-of : (κs : _) (a : _) (x y : _) (s t : _) → count-of.Post κs a x s → count-of.Post κs a y t → x ≡ y
+one-count-of κs a x y s t p q = only p q
 
-pub only-start : (κs : _) (a : _) (x y : _) (s t : _) → start.Post κs a x s → start.Post κs a y t → x ≡ y
-only-start κs a x y s t p q = only p q
+pub one-start : (κs : _) (a : _) (x y : _) (s t : _) → start.Post κs a x s → start.Post κs a y t → x ≡ y
+one-start κs a x y s t p q = only p q
 
-pub only-more : (κs : _) (a : _) (x y : _) (s t : _) → more.Post κs a x s → more.Post κs a y t → x ≡ y
-only-more κs a x y s t p q = only p q
+pub one-more : (κs : _) (a : _) (x y : _) (s t : _) → more.Post κs a x s → more.Post κs a y t → x ≡ y
+one-more κs a x y s t p q = only p q
 
-pub only-so-far : (κs : _) (a : _) (x y : _) (s t : _) → so-far.Post κs a x s → so-far.Post κs a y t → x ≡ y
-only-so-far κs a x y s t p q = only p q
+pub one-so-far : (κs : _) (a : _) (x y : _) (s t : _) → so-far.Post κs a x s → so-far.Post κs a y t → x ≡ y
+one-so-far κs a x y s t p q = only p q

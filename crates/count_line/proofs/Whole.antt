@@ -1,8 +1,8 @@
 -- The input read byte by byte gives the count of its first line; read in parts it gives the same. Assumes nothing.
 use Prim.Native.Nat.{ℕ, zero, suc, _+_, _-_, _≤_, _<_, min}
 use mathlib.Core.Bool.{Bool, true, false, cond, not, _||_}
-use mathlib.Core.Path.{_≡_, refl, sym, ap, ap₂, _∙_}
-use mathlib.Core.List.{List, [], _++_}
+use mathlib.Core.Path.{_≡_, refl, sym, ap, _∙_}
+use mathlib.Core.List.{List, _++_}
 use mathlib.Core.Logic.{⊎-elim}
 use native.Mathlib.Nat.{add-zero, add-suc, eq-or-lt-of-le}
 use native.Mathlib.Omega.{arith}
@@ -13,15 +13,17 @@ use lib.Seq.{getD-append-add}
 use Rattle.bits.specs.Loops.{upto}
 use Rattle.bits.proofs.LoopLaws.{First, first-holds}
 use Rattle.answer.specs.Numbers.{outsideSet}
-use Rattle.answer.specs.Rows.{done, refused, answerOf}
+use Rattle.answer.specs.Rows.{done, refused}
+use Rattle.answer.specs.Steps.{inTurn, rowThen}
 use Rattle.answer.specs.declared.Answer.{Answer}
-use Rattle.answer.proofs.Table.{row-whole}
+use Rattle.answer.proofs.Turns.{in-turn}
+use Rattle.decimal.specs.Digits.{allDigits, decimal}
+use Rattle.decimal.specs.Steps.{seen}
+use Rattle.decimal.proofs.Reading.{read, read-none, read-more}
 use Rattle.sizes.specs.Sizes.{places}
-use Rattle.count_line.specs.Lines.{lineFeed, lineLength, allDigits, decimal, noCount, countOf}
-use Rattle.count_line.specs.Reading.{tooMuch, nextValue, startOf, stepOf, stepAt, moreOf, soFar}
+use Rattle.count_line.specs.Lines.{lineFeed, lineLength, noCount, countOf}
+use Rattle.count_line.specs.Steps.{tooMuch, startOf, stepOf, stepAt, moreOf, soFar}
 use Rattle.count_line.specs.declared.Line.{Line}
-use Rattle.count_line.proofs.Stepping.{so-far-chain}
-use Rattle.count_line.proofs.Digits.{seen, seen-more, digits-none, digits-more, decimal-none, decimal-more}
 
 -- ---- within the line
 
@@ -34,16 +36,13 @@ module _ (s : List ℕ) where
   line-first = first-holds (lineFeed s) (length s)
 
   abbrev number : ℕ → ℕ
-  number k = seen (allDigits s k) (decimal s k)
-
-  number-more : (k : ℕ) → nextValue (number k) (getD s k 0) ≡ number (suc k)
-  number-more k = seen-more (allDigits s k) (decimal s k) (getD s k 0) ∙ ap₂ seen (sym (digits-more s k)) (sym (decimal-more s k))
+  number k = read tooMuch tooMuch (omega arith) s k
 
   -- after k bytes of the line
   within : (k : ℕ) → k ≤ n → upto (stepAt s) startOf k ≡ record { value = number k; some = ltb 0 k; ended = false }
-  unfolding upto stepAt stepOf seen
-  within zero h = rw (digits-none s, decimal-none s)
-  within (suc k) h = rw (within k (omega arith), line-first .none k h, number-more k, lt-ltb 0 (suc k) (omega arith))
+  unfolding upto stepAt stepOf
+  within zero h = rw (← read-none tooMuch tooMuch (omega arith) s)
+  within (suc k) h = rw (within k (omega arith), line-first .none k h, read-more tooMuch tooMuch (omega arith) s k, lt-ltb 0 (suc k) (omega arith))
 
   -- after the line feed nothing counts
   behind : (k : ℕ) → n < length s → upto (stepAt s) startOf (suc (n + k)) ≡ record { value = number n; some = ltb 0 n; ended = true }
@@ -73,8 +72,8 @@ module _ (s : List ℕ) where
 -- ---- the answer
 
 count-chain : (s : List ℕ) → countOf s ≡ cond (noCount s (lineLength s)) (refused outsideSet 0) (done (decimal s (lineLength s)))
-unfolding countOf answerOf
-count-chain s = row-whole outsideSet (noCount s (lineLength s)) [] (decimal s (lineLength s))
+unfolding countOf inTurn rowThen
+count-chain s = in-turn _ _
 
 -- an empty line, one with a byte that is no digit, one above every count, and a count
 module _ (v : ℕ) where
@@ -85,21 +84,24 @@ module _ (v : ℕ) where
       let m : min v tooMuch ≡ v = omega arith in
       rw (le-ltb places v (omega arith), m)
 
-  same-verdict : (n : ℕ) (d : Bool) → cond (not (ltb 0 n) || ltb places (seen d v)) (refused outsideSet 0) (done (seen d v)) ≡ cond (eqb n 0 || (not d || ltb places v)) (refused outsideSet 0) (done v)
+  same-verdict : (n : ℕ) (d : Bool)
+      → cond (not (ltb 0 n)) (refused outsideSet 0) (cond (ltb places (seen tooMuch tooMuch d v)) (refused outsideSet 0) (done (seen tooMuch tooMuch d v)))
+      ≡ cond (eqb n 0 || (not d || ltb places v)) (refused outsideSet 0) (done v)
   unfolding seen
   same-verdict zero d = refl
   same-verdict (suc n) false = rw (eqb·suc-zero n, lt-ltb 0 (suc n) (omega arith))
   same-verdict (suc n) true = rw (eqb·suc-zero n, lt-ltb 0 (suc n) (omega arith)) (above (ltb places (min v tooMuch)) refl)
 
 -- THE COUNT: what was read of the whole input is the count of its first line
-pub read-all : (s : List ℕ) → soFar (moreOf startOf s) ≡ countOf s
-read-all s =
+pub read-line : (s : List ℕ) → soFar (moreOf startOf s) ≡ countOf s
+unfolding soFar
+read-line s =
     let k = kept s in
-    so-far-chain (moreOf startOf s) ∙ rw (k .value-is, k .some-is, count-chain s) (same-verdict (decimal s (lineLength s)) (lineLength s) (allDigits s (lineLength s)))
+    rw (k .value-is, k .some-is, count-chain s) (same-verdict (decimal s (lineLength s)) (lineLength s) (allDigits s (lineLength s)))
 
 -- the same of what the code's three calls answered
 pub read-by : (s : List ℕ) {l m : Line} {a : Answer} → l ≡ startOf → m ≡ moreOf l s → a ≡ soFar m → a ≡ countOf s
-read-by s p q e = e ∙ rw (q, p) (read-all s)
+read-by s p q e = e ∙ rw (q, p) (read-line s)
 
 -- bytes of a, and then of b, are bytes of both together
 module _ (l : Line) (a b : List ℕ) where

@@ -1,14 +1,15 @@
 -- Document 01, "GMP places": "A program reads a count ..; for a count above 10,220 or a first line that is empty or not all decimal digits it
 -- writes the one line `refused 1`." The first line ends at a line feed or at the end of the input. Assumes nothing: these are definitions.
-use Prim.Native.Nat.{ℕ, _+_, _-_, _*_}
-use mathlib.Core.Bool.{Bool, not, _&&_, _||_}
+use Prim.Native.Nat.{ℕ}
+use mathlib.Core.Bool.{Bool, not, _||_}
 use mathlib.Core.List.{List, [], _∷_}
-use lib.Dec.{leb, ltb, eqb}
+use lib.Dec.{ltb, eqb}
 use lib.ListN.{length, getD}
-use Rattle.bits.specs.Loops.{upto, first, count}
+use Rattle.bits.specs.Loops.{first}
 use Rattle.answer.specs.Numbers.{outsideSet}
-use Rattle.answer.specs.Rows.{answerOf, whole}
+use Rattle.answer.specs.Rows.{whole, answerOf}
 use Rattle.answer.specs.declared.Answer.{Answer}
+use Rattle.decimal.specs.Digits.{allDigits, decimal}
 use Rattle.sizes.specs.Sizes.{places}
 
 -- byte k of the input is a line feed
@@ -18,21 +19,6 @@ lineFeed s k = eqb (getD s k 0) 10
 -- the bytes of the first line
 unfoldable pub lineLength : List ℕ → ℕ
 lineLength s = first (lineFeed s) (length s)
-
--- byte k is one of 0 .. 9
-abbrev pub isDigit : ℕ → Bool
-isDigit b = leb 48 b && leb b 57
-
-abbrev pub digitAt : List ℕ → ℕ → Bool
-digitAt s k = isDigit (getD s k 0)
-
--- the first n bytes are all digits: n of them are
-unfoldable pub allDigits : List ℕ → ℕ → Bool
-allDigits s n = eqb (count (digitAt s) n) n
-
--- the number that the first n bytes are in decimal, however many
-unfoldable pub decimal : List ℕ → ℕ → ℕ
-decimal s n = upto (λ k v. v * 10 + (getD s k 0 - 48)) 0 n
 
 -- the line is empty, is not all digits, or is above P
 abbrev pub noCount : List ℕ → ℕ → Bool

@@ -1,8 +1,11 @@
 // The count that a first line holds, in decimal: document 01, "GMP places".
 ghost use mathlib.Core.Path.{_≡_};
 ghost use Rattle.count_line.specs.Lines.{countOf};
-ghost use Rattle.count_line.specs.Reading.{nextValue, startOf, stepOf, moreOf, soFar};
+ghost use Rattle.count_line.specs.Steps.{startOf, stepOf, moreOf, soFar};
 use answer::Answer;
+
+// Above every count: what has come to it stays there, so that a line of any length is read.
+const TOO_MUCH: u32 = sizes::PLACES as u32 + 1;
 
 // What is kept of a first line while the input comes in parts.
 pub struct Line {
@@ -44,15 +47,20 @@ pub fn more(line: Line, s: &[u8]) -> Line
 pub fn so_far(line: Line) -> Answer
     ensures { λ r. ⌜ r ≡ soFar line ⌝ }
 {
-    if !line.some {
-        return answer::refuse(answer::OUTSIDE_SET, 0);
-    }
-    if sizes::PLACES < line.value {
-        return answer::refuse(answer::OUTSIDE_SET, 0);
-    }
-    answer::granted(line.value)
+    answer::refuse_if(
+        !line.some,
+        answer::OUTSIDE_SET,
+        0,
+        answer::refuse_if(
+            sizes::PLACES < line.value,
+            answer::OUTSIDE_SET,
+            0,
+            answer::granted(line.value),
+        ),
+    )
 }
 
+// One byte more.
 fn step(line: Line, b: u8) -> Line
     ensures { λ r. ⌜ r ≡ stepOf line b ⌝ }
 {
@@ -67,29 +75,8 @@ fn step(line: Line, b: u8) -> Line
         };
     }
     Line {
-        value: next_value(line.value, b),
+        value: decimal::next_value(TOO_MUCH, TOO_MUCH, line.value, b),
         some: true,
         ended: false,
-    }
-}
-
-// One digit more. What is above every count stays there, so that a line of any length is read.
-fn next_value(v: u64, b: u8) -> u64
-    ensures { λ r. ⌜ r ≡ nextValue v b ⌝ }
-{
-    if sizes::PLACES < v {
-        return sizes::PLACES + 1;
-    }
-    if b < b'0' {
-        return sizes::PLACES + 1;
-    }
-    if b'9' < b {
-        return sizes::PLACES + 1;
-    }
-    let next = v * 10 + (b - b'0') as u64;
-    if sizes::PLACES < next {
-        sizes::PLACES + 1
-    } else {
-        next
     }
 }

@@ -1,7 +1,7 @@
 -- The laws of `specs/`, for every crate above.
 pub mod Linear
-pub mod Changes
-pub mod Powers
 pub mod Divide
+pub mod Powers
+pub mod Changes
 pub mod Bytewise
 pub mod Unique

@@ -1,106 +1,101 @@
--- Powers of x: a remainder times x^n is its product with what x^n leaves, so that x^(2n) is the square of x^n. Multiplying by x passes
--- through sums (`shift-xor`), hence through Horner's rule; that and 1·r = r are all that it takes. Assumes nothing.
+-- Powers of x, whatever the width w and what x^w leaves, p: a remainder times x^n is its product with what x^n leaves, so that x^(2n) is
+-- the square of x^n. Multiplying by x passes through sums (`shift-xor`), hence through Horner's rule; that and 1·r = r are all that it
+-- takes. Assumes nothing.
 use Prim.Native.Nat.{ℕ, zero, suc, _+_, _*_, _/_, _%_, _^_, _≤_, _<_}
 use mathlib.Core.Path.{_≡_, refl, sym, ap, ap₂, _∙_}
-use native.Mathlib.Nat.{zero-add, suc-add, zero-mul, one-mul, mul-one, lt-of-lt-of-le}
+use native.Mathlib.Nat.{zero-add, suc-add, zero-mul, one-mul, mul-one, pow-suc, mod-eq-of-lt, div-eq-of-lt}
 use native.Mathlib.Omega.{arith}
 use lib.Bits.{bitXor, xor-zero-r, xor-shifted}
-use lib.Pow.{pow-mono}
+use lib.Pow.{pow-mono, pow-lt}
 use Rattle.bits.specs.Bits.{num, digit}
 use Rattle.bits.specs.Loops.{upto}
-use Rattle.bits.proofs.Common.{agree}
 use Rattle.bits.proofs.Numbers.{digit-lt, num-lt, num-digit}
-use Rattle.crc.specs.Crc.{shift, shiftN}
-use Rattle.crc.specs.Powers.{productStep, product}
-use Rattle.crc.proofs.Linear.{shift-lt, shift-xor}
+use Rattle.crc.specs.Remainder.{shift, shiftN}
+use Rattle.crc.specs.Steps.{productStep, product}
+use Rattle.crc.proofs.Linear.{top-digit, shift-lt, shift-xor, shift-zero}
 
--- m times after n times
-pub shifts-add : (m n r : ℕ) → shiftN (m + n) r ≡ shiftN m (shiftN n r)
-unfolding shiftN
-shifts-add zero n r = ap (λ (x : ℕ). shiftN x r) (zero-add n)
-shifts-add (suc m) n r = ap (λ (x : ℕ). shiftN x r) (suc-add m n) ∙ ap shift (shifts-add m n r)
+module _ (w p : ℕ) where
+  -- m times after n times
+  pub shifts-add : (m n r : ℕ) → shiftN w p (m + n) r ≡ shiftN w p m (shiftN w p n r)
+  unfolding shiftN
+  shifts-add zero n r = ap (λ (x : ℕ). shiftN w p x r) (zero-add n)
+  shifts-add (suc m) n r = ap (λ (x : ℕ). shiftN w p x r) (suc-add m n) ∙ ap (shift w p) (shifts-add m n r)
 
--- ---- x passes through a product
+  -- ---- x passes through a product
 
-shift-zero : shift 0 ≡ 0
-unfolding shift digit
-shift-zero = refl
+  shift-digit-times : (d a : ℕ) → d < 2 → shift w p (d * a) ≡ d * shift w p a
+  shift-digit-times zero a h = ap (shift w p) (zero-mul a) ∙ shift-zero w p ∙ sym (zero-mul (shift w p a))
+  shift-digit-times (suc zero) a h = ap (shift w p) (one-mul a) ∙ sym (one-mul (shift w p a))
+  shift-digit-times (suc (suc d)) a h = absurd (omega arith)
 
--- a digit times a number
-pub digit-times-lt : (d a n : ℕ) → d < 2 → a < n → d * a < n
-digit-times-lt zero a n h l = rw zero-mul (omega arith)
-digit-times-lt (suc zero) a n h l = rw one-mul l
-digit-times-lt (suc (suc d)) a n h l = absurd (omega arith)
+  shift-product : (a b k : ℕ) → shift w p (upto (productStep w p a b) 0 k) ≡ upto (productStep w p (shift w p a) b) 0 k
+  unfolding upto productStep
+  shift-product a b zero = shift-zero w p
+  shift-product a b (suc k) =
+      shift-xor w p (shift w p (upto (productStep w p a b) 0 k)) (digit w b k * a)
+      ∙ ap₂ bitXor (ap (shift w p) (shift-product a b k)) (shift-digit-times (digit w b k) a (digit-lt w b k))
 
-shift-digit-times : (d a : ℕ) → d < 2 → shift (d * a) ≡ d * shift a
-shift-digit-times zero a h = ap shift (zero-mul a) ∙ shift-zero ∙ sym (zero-mul (shift a))
-shift-digit-times (suc zero) a h = ap shift (one-mul a) ∙ sym (one-mul (shift a))
-shift-digit-times (suc (suc d)) a h = absurd (omega arith)
+  shifts-product : (n a b : ℕ) → shiftN w p n (product w p a b) ≡ product w p (shiftN w p n a) b
+  unfolding shiftN
+  shifts-product zero a b = refl
+  shifts-product (suc n) a b = ap (shift w p) (shifts-product n a b) ∙ shift-product (shiftN w p n a) b w
 
-shift-product : (a b k : ℕ) → shift (upto (productStep a b) 0 k) ≡ upto (productStep (shift a) b) 0 k
-unfolding upto productStep
-shift-product a b zero = shift-zero
-shift-product a b (suc k) =
-    shift-xor (shift (upto (productStep a b) 0 k)) (digit 32 b k * a)
-    ∙ ap₂ bitXor (ap shift (shift-product a b k)) (shift-digit-times (digit 32 b k) a (digit-lt 32 b k))
+  -- ---- 1·b is b
 
-shifts-product : (n a b : ℕ) → shiftN n (product a b) ≡ product (shiftN n a) b
-unfolding shiftN
-shifts-product zero a b = refl
-shifts-product (suc n) a b = ap shift (shifts-product n a b) ∙ shift-product (shiftN n a) b 32
+  -- where no digit leaves on top, x doubles
+  shift-low : (r : ℕ) → r * 2 < 2 ^ w → shift w p r ≡ r * 2
+  unfolding shift
+  shift-low r h = rw (top-digit w r (omega arith), div-eq-of-lt h, mod-eq-of-lt h, zero-mul) (xor-zero-r (r * 2))
 
--- ---- 1·b is b
+  -- the first k digits of b
+  one-times : (b k : ℕ) → k ≤ w → upto (productStep w p 1 b) 0 k ≡ num k (digit w b) 0
+  unfolding upto productStep num
+  one-times b zero h = refl
+  one-times b (suc k) h =
+      let v = num k (digit w b) 0 in
+      let d = digit w b k in
+      let low : v * 2 < 2 ^ w = omega (arith, num-lt k (digit w b) 0 (digit-lt w b), pow-mono h) in
+      ap₂ bitXor (ap (shift w p) (one-times b k (omega arith)) ∙ shift-low v low) (mul-one d)
+      ∙ xor-shifted v 1 d (digit-lt w b k)
+      ∙ ap (λ (x : ℕ). v * 2 + digit w b x) (sym (zero-add k))
 
--- where no digit leaves on top, x doubles
-shift-low : (r : ℕ) → r < 2 ^ 31 → shift r ≡ r * 2
-unfolding shift digit
-shift-low r h =
-    let none : r / 2 ^ 31 % 2 ≡ 0 = omega arith in
-    let all : r * 2 % 2 ^ 32 ≡ r * 2 = omega arith in
-    rw (none, all) (xor-zero-r (r * 2))
+  -- ---- powers of x
 
--- the first k digits of b
-one-times : (b k : ℕ) → k ≤ 32 → upto (productStep 1 b) 0 k ≡ num k (digit 32 b) 0
-unfolding upto productStep num
-one-times b zero h = refl
-one-times b (suc k) h =
-    let v = num k (digit 32 b) 0 in
-    let d = digit 32 b k in
-    let low : v < 2 ^ 31 = lt-of-lt-of-le (num-lt k (digit 32 b) 0 (digit-lt 32 b)) (pow-mono {i = k} {j = 31} (omega arith)) in
-    ap₂ bitXor (ap shift (one-times b k (omega arith)) ∙ shift-low v low) (mul-one d)
-    ∙ xor-shifted v 1 d (digit-lt 32 b k)
-    ∙ ap (λ (x : ℕ). v * 2 + digit 32 b x) (sym (zero-add k))
+  -- POWER: r times what x^n leaves is what r·x^n leaves
+  pub by-power : (n r : ℕ) → r < 2 ^ w → product w p (shiftN w p n 1) r ≡ shiftN w p n r
+  by-power n r h = sym (shifts-product n 1 r) ∙ ap (shiftN w p n) (one-times r w (omega arith) ∙ num-digit w r h)
 
-one-product : (b : ℕ) → b < 2 ^ 32 → product 1 b ≡ b
-one-product b h = one-times b 32 (omega arith) ∙ num-digit 32 b h
+  -- below x^w nothing is taken away
+  low-power : (m : ℕ) → m < w → shiftN w p m 1 ≡ 2 ^ m
+  unfolding shiftN
+  low-power zero h = refl
+  low-power (suc m) h =
+      ap (shift w p) (low-power m (omega arith)) ∙ shift-low (2 ^ m) (rw (← (pow-suc 2 m)) (pow-lt h)) ∙ sym (pow-suc 2 m)
 
--- ---- powers of x
+  -- as the code shifts
+  pub power-low : (m : ℕ) → m < w → 1 * 2 ^ m % 2 ^ w ≡ shiftN w p m 1
+  power-low m h = rw (one-mul, mod-eq-of-lt (pow-lt h)) (sym (low-power m h))
 
--- POWER: r times what x^n leaves is what r·x^n leaves
-pub by-power : (n r : ℕ) → r < 2 ^ 32 → product (shiftN n 1) r ≡ shiftN n r
-by-power n r h = sym (shifts-product n 1 r) ∙ ap (shiftN n) (one-product r h)
+module _ (w p : ℕ) (some : 0 < w) (small : p < 2 ^ w) where
+  power-lt : (n : ℕ) → shiftN w p n 1 < 2 ^ w
+  unfolding shiftN
+  power-lt zero = pow-lt some
+  power-lt (suc n) = shift-lt w p small (shiftN w p n 1)
 
-power-lt : (n : ℕ) → shiftN n 1 < 2 ^ 32
-unfolding shiftN
-power-lt zero = omega arith
-power-lt (suc n) = shift-lt (shiftN n 1)
+  -- the square s of h, which is x^(m/2)
+  squared : (m h s : ℕ) → h ≡ shiftN w p (m / 2) 1 → s ≡ product w p h h → s ≡ shiftN w p (m / 2 + m / 2) 1
+  squared m h s e q =
+      let n = m / 2 in
+      q ∙ ap₂ (product w p) e e ∙ by-power w p n (shiftN w p n 1) (power-lt n) ∙ sym (shifts-add w p n n 1)
 
--- below x^32 nothing is taken away
-pub power-low : (m : ℕ) → m < 32 → 1 * 2 ^ m % 2 ^ 32 ≡ shiftN m 1
-unfolding shiftN shift digit
-power-low = agree (λ m. 1 * 2 ^ m % 2 ^ 32) (λ m. shiftN m 1) 32 tt
+  -- EVEN and ODD: x^m from that square
+  pub power-even : (m h s : ℕ) → h ≡ shiftN w p (m / 2) 1 → s ≡ product w p h h → m % 2 ≡ 0 → s ≡ shiftN w p m 1
+  power-even m h s e q even =
+      let twice : m / 2 + m / 2 ≡ m = omega arith in
+      squared m h s e q ∙ ap (λ (x : ℕ). shiftN w p x 1) twice
 
-square : (n : ℕ) → product (shiftN n 1) (shiftN n 1) ≡ shiftN (n + n) 1
-square n = by-power n (shiftN n 1) (power-lt n) ∙ sym (shifts-add n n 1)
-
--- EVEN and ODD: x^m from the square s of h, which is x^(m/2)
-pub power-even : (m h s : ℕ) → h ≡ shiftN (m / 2) 1 → s ≡ product h h → m % 2 ≡ 0 → s ≡ shiftN m 1
-power-even m h s p q e =
-    let twice : m / 2 + m / 2 ≡ m = omega arith in
-    q ∙ ap₂ product p p ∙ square (m / 2) ∙ ap (λ (x : ℕ). shiftN x 1) twice
-
-pub power-odd : (m h s x : ℕ) → h ≡ shiftN (m / 2) 1 → s ≡ product h h → x ≡ shift s → (m % 2 ≡ 0 → ⊥) → x ≡ shiftN m 1
-unfolding shiftN
-power-odd m h s x p q r e =
-    let twice : suc (m / 2 + m / 2) ≡ m = omega arith in
-    r ∙ ap shift (q ∙ ap₂ product p p ∙ square (m / 2)) ∙ ap (λ (x : ℕ). shiftN x 1) twice
+  pub power-odd : (m h s x : ℕ) → h ≡ shiftN w p (m / 2) 1 → s ≡ product w p h h → x ≡ shift w p s → (m % 2 ≡ 0 → ⊥) → x ≡ shiftN w p m 1
+  unfolding shiftN
+  power-odd m h s x e q r odd =
+      let twice : suc (m / 2 + m / 2) ≡ m = omega arith in
+      r ∙ ap (shift w p) (squared m h s e q) ∙ ap (λ (x : ℕ). shiftN w p x 1) twice

@@ -1,46 +1,47 @@
 -- The CRC of an FEC block (document 01, "One FEC block"; 002): complement the first 32 bits, take the bits as a polynomial, first bit
--- highest, multiply by x^32, take the remainder, complement it.
--- A stretch of bits is a function f from a bit's place to the bit, with a count n: f 0 is sent first. A polynomial of degree below 32 is
--- the number whose binary digits are its coefficients, x^31 on top; the sum of two is `bitXor`. Assumes nothing: these are definitions.
-use Prim.Native.Nat.{ℕ, zero, suc, _-_, _*_, _%_, _^_}
+-- highest, multiply by x^32, take the remainder, complement it. The remainder is that of Remainder.antt by the generator below.
+-- Assumes nothing: these are definitions.
+use Prim.Native.Nat.{ℕ, _-_, _^_}
 use mathlib.Core.Bool.{cond}
+use mathlib.Core.List.{List, [], _∷_}
 use lib.Bits.{bitXor}
 use lib.Dec.{ltb}
-use Rattle.bits.specs.Bits.{digit}
+use lib.ListN.{getD, drop}
+use Rattle.crc.specs.Remainder as any
 
--- x^26+x^23+x^22+x^16+x^12+x^11+x^10+x^8+x^7+x^5+x^4+x^2+x+1: what x^32 leaves
-abbrev pub poly : ℕ
-poly = 0x04C11DB7
+-- the generator, by its powers as document 01 prints them: x^32+x^26+x^23+x^22+x^16+x^12+x^11+x^10+x^8+x^7+x^5+x^4+x^2+x+1
+abbrev pub powers : List ℕ
+powers = 32 ∷ 26 ∷ 23 ∷ 22 ∷ 16 ∷ 12 ∷ 11 ∷ 10 ∷ 8 ∷ 7 ∷ 5 ∷ 4 ∷ 2 ∷ 1 ∷ 0 ∷ []
 
--- what r·x leaves: the digit that leaves on top stands for x^32
-unfoldable pub shift : ℕ → ℕ
-shift r = bitXor (r * 2 % 2 ^ 32) (digit 32 r 0 * poly)
+-- the highest is the width of a remainder, in bits
+abbrev pub width : ℕ
+width = getD powers 0 0
 
--- what r·x + b·x^32 leaves: one more bit
-unfoldable pub step : ℕ → ℕ → ℕ
-step r b = bitXor (shift r) (b * poly)
+-- the others are what it leaves
+unfoldable pub poly : ℕ
+poly = any.polynomial (drop 1 powers)
 
--- from the remainder r, the n bits of f
-unfoldable pub remFrom : ℕ → (ℕ → ℕ) → ℕ → ℕ
-remFrom r f zero = r
-remFrom r f (suc n) = step (remFrom r f n) (f n)
+-- what r·x leaves, what it leaves with one more bit, and what r·x^m leaves
+abbrev pub shift : ℕ → ℕ
+shift r = any.shift width poly r
+
+abbrev pub step : ℕ → ℕ → ℕ
+step r b = any.step width poly r b
+
+abbrev pub shiftN : ℕ → ℕ → ℕ
+shiftN m r = any.shiftN width poly m r
 
 -- the remainder of f·x^32, f the polynomial of n bits
 abbrev pub remOf : (ℕ → ℕ) → ℕ → ℕ
-remOf f n = remFrom 0 f n
-
--- what r·x^m leaves
-unfoldable pub shiftN : ℕ → ℕ → ℕ
-shiftN zero r = r
-shiftN (suc m) r = shift (shiftN m r)
+remOf f n = any.remOf width poly f n
 
 -- the bits of f, the first 32 of them complemented
 unfoldable pub opened : (ℕ → ℕ) → ℕ → ℕ
-opened f i = cond (ltb i 32) (1 - f i) (f i)
+opened f i = cond (ltb i width) (1 - f i) (f i)
 
 -- all 32 digits are ones: adding this turns each of them
 abbrev pub ones : ℕ
-ones = 2 ^ 32 - 1
+ones = 2 ^ width - 1
 
 -- the CRC of the n bits of f: both complements are wanted. Its digit j from the top is sent as bit j
 unfoldable pub crcOf : ℕ → (ℕ → ℕ) → ℕ

@@ -3,17 +3,18 @@
 use Prim.Native.Nat.{ℕ, zero, suc, _+_, _*_, _%_, _^_}
 use lib.Bits.{bitXor}
 use Rattle.bits.specs.Bits.{digit}
-use Rattle.crc.specs.Crc.{poly, remOf}
-
--- the generator: x^32 and what it leaves
-abbrev pub generator : ℕ
-generator = 2 ^ 32 + poly
+use Rattle.crc.specs.Remainder.{remOf}
 
 -- the polynomial whose n coefficients are q 0, .., q (n - 1), the first of the highest power, times the polynomial g: Horner's rule, no carries
 unfoldable pub times : (ℕ → ℕ) → ℕ → ℕ → ℕ
 times q zero g = zero
 times q (suc n) g = bitXor (times q n g * 2) (q n * g)
 
--- the quotient's coefficients: 1 where, bit n taken in, x^32 stands on top and the generator is taken away
-unfoldable pub quotient : (ℕ → ℕ) → ℕ → ℕ
-quotient f n = (digit 32 (remOf f n) 0 + f n) % 2
+module _ (w p : ℕ) where
+  -- the generator: x^w and what it leaves
+  abbrev pub generator : ℕ
+  generator = 2 ^ w + p
+
+  -- the quotient's coefficients: 1 where, bit n taken in, x^w stands on top and the generator is taken away
+  unfoldable pub quotient : (ℕ → ℕ) → ℕ → ℕ
+  quotient f n = (digit w (remOf w p f n) 0 + f n) % 2

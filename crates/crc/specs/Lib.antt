@@ -1,5 +1,5 @@
 -- What the contracts of `crc`, and of every crate above it, are stated in.
-pub mod Crc
+pub mod Remainder
 pub mod Division
-pub mod ByBytes
-pub mod Powers
+pub mod Crc
+pub mod Steps

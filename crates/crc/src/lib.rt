@@ -3,9 +3,8 @@
 ghost use mathlib.Core.Path.{_≡_};
 ghost use Prim.Native.Nat.{_*_, _%_, _<_};
 ghost use lib.ListN.{length};
-ghost use Rattle.crc.specs.Crc.{shift, step, shiftN};
-ghost use Rattle.crc.specs.ByBytes.{entryOf, entries, byteStep, remBy, opening, crcBy};
-ghost use Rattle.crc.specs.Powers.{product};
+ghost use Rattle.crc.specs.Crc.{width, poly, shift, step, shiftN};
+ghost use Rattle.crc.specs.Steps.{entryOf, entries, byteStep, product, remBy, opening, crcBy};
 
 const POLY: u32 = 0x04C11DB7;
 
@@ -35,7 +34,7 @@ pub fn take(r: u32, b: u8) -> u32
 
 // What a·b leaves: Horner's rule, the digits of b from the top.
 fn multiply(a: u32, b: u32) -> u32
-    ensures { λ x. ⌜ x ≡ product a b ⌝ }
+    ensures { λ x. ⌜ x ≡ product width poly a b ⌝ }
 {
     let mut r: u32 = 0;
     for j in 0..32u32 {
@@ -65,7 +64,7 @@ pub fn shifted(r: u32, m: u64) -> u32
 
 // What the eight lowest bits of b leave.
 fn entry(b: u32) -> u32
-    ensures { λ r. ⌜ r ≡ entryOf b ⌝ }
+    ensures { λ r. ⌜ r ≡ entryOf width poly b ⌝ }
 {
     let mut r: u32 = 0;
     for j in 0..8u32 {
@@ -88,7 +87,7 @@ pub fn table() -> [u32; 256]
 // The remainder r takes in byte k of s: the byte that leaves on top meets it, and the table has what they leave.
 fn take_byte(t: &[u32; 256], s: &[u8], k: usize, r: u32) -> u32
     requires { ⌜ k < length (now s) ⌝ }
-    ensures { λ x. ⌜ x ≡ byteStep (now (t .entry)) (now (s .entry)) k r ⌝ }
+    ensures { λ x. ⌜ x ≡ byteStep width (now (t .entry)) (now (s .entry)) k r ⌝ }
 {
     (r << 8) ^ t[((r >> 24) ^ bits::wide(s[k])) as usize]
 }

@@ -2,3 +2,4 @@
 pub mod Hurting
 pub mod Facts
 pub mod Starred
+pub mod Unique

@@ -5,7 +5,7 @@ use lib.ListN.{length}
 use Rattle.bits.specs.Loops.{upto}
 use Rattle.sizes.specs.Sizes.{wordBytes}
 use Rattle.line_order.specs.Order.{replaceBy, lineOrder}
-use Rattle.capture.specs.Damage.{hurt}
+use Rattle.capture.specs.Demand2.{hurt}
 use Rattle.demands.specs.Demands.{choiceOf}
 
 -- word w with the bit that is chosen for it turned

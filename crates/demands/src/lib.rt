@@ -5,24 +5,30 @@ ghost use mathlib.Core.Path.{_≡_};
 ghost use mathlib.Core.List.{List};
 ghost use Prim.Native.Nat.{ℕ};
 ghost use lib.ListN.{length};
-ghost use Rattle.answer.specs.Numbers.{allDone};
-ghost use Rattle.coder.specs.Code.{codeRows};
-ghost use Rattle.reading.specs.Read.{readRows};
-ghost use Rattle.editing.specs.Edit.{editRows};
-ghost use Rattle.capture.specs.Damage.{hurt};
-ghost use Rattle.demands.specs.Demands.{Refuses, choiceOf, Demand2, Demand3};
+ghost use Rattle.answer.specs.Outcomes.{Outcome};
+ghost use Rattle.answer.specs.Demand1.{Demand1};
+ghost use Rattle.bits.specs.Loops.{count};
+ghost use Rattle.sizes.specs.Sizes.{words};
+ghost use Rattle.coder.specs.Code.{captureOf, codeRows};
+ghost use Rattle.reading.specs.Read.{isSeen, given, readRows};
+ghost use Rattle.editing.specs.Edit.{listed, edited, editRows};
+ghost use Rattle.mapping.specs.RoundTrip.{mapUnmapAnswer, mapUnmapLeaves};
+ghost use Rattle.capture.specs.Demand2.{hurt};
+ghost use Rattle.demands.specs.Demands.{choiceOf, ReadsDamaged, EditsCoded};
 ghost use Rattle.demands.specs.Hurt.{hurtBytes};
 
 // Demand 1 of coding.
 pub fn code(n: u64, m0: u64, info: &[u8], parity: &[u8], capture: &mut [u8]) -> Answer
-    ensures { λ r. ⌜ Refuses (codeRows n m0 (now (info .entry)) (now (parity .entry)) (now (capture .entry))) (now (capture .entry)) r (now (capture .exit)) ⌝ }
+    ensures { λ r. ⌜ Demand1 (codeRows n m0 (length (now (info .entry))) (length (now (parity .entry))) (length (now (capture .entry)))) (words n)
+        (captureOf n m0 (now (info .entry)) (now (parity .entry))) (now (capture .entry)) r (now (capture .exit)) ⌝ }
 {
     capture::code(n, m0, info, parity, capture)
 }
 
 // Demand 1 of reading.
 pub fn read(n: u64, m0: u64, capture: &[u8], info: &mut [u8], parity: &mut [u8]) -> Answer
-    ensures { λ r. ⌜ Refuses {B = List ℕ × List ℕ} (readRows n m0 (now (capture .entry)) (now (info .entry)) (now (parity .entry))) (now (info .entry), now (parity .entry)) r
+    ensures { λ r. ⌜ Demand1 {B = List ℕ × List ℕ} (readRows n m0 (now (capture .entry)) (now (info .entry)) (now (parity .entry)))
+        (count (isSeen (now (capture .entry))) (words n)) (given n (now (capture .entry))) (now (info .entry), now (parity .entry)) r
         (now (info .exit), now (parity .exit)) ⌝ }
 {
     capture::read(n, m0, capture, info, parity)
@@ -37,7 +43,8 @@ pub fn edit(
     capture: &mut [u8],
     list: &mut [u64],
 ) -> Answer
-    ensures { λ r. ⌜ Refuses {B = List ℕ × List ℕ} (editRows n block (now (bits .entry)) (now (parity .entry)) (now (capture .entry)) (now (list .entry)))
+    ensures { λ r. ⌜ Demand1 {B = List ℕ × List ℕ} (editRows n block (now (bits .entry)) (now (parity .entry)) (now (capture .entry)) (now (list .entry)))
+        (count (listed n block) (words n)) (edited n block (now (bits .entry)) (now (parity .entry)) (now (capture .entry)) (now (list .entry)))
         (now (capture .entry), now (list .entry)) r (now (capture .exit), now (list .exit)) ⌝ }
 {
     capture::edit(n, block, bits, parity, capture, list)
@@ -54,8 +61,8 @@ pub fn code_damage_read(
     back: &mut [u8],
     parity_back: &mut [u8],
 ) -> Answer
-    ensures { λ r. ⌜ Demand2 n m0 (now (info .entry)) (now (parity .entry)) (now (flips .entry)) (now (capture .entry)) (now (back .entry))
-        (now («parity_back» .entry)) r (now (back .exit)) (now («parity_back» .exit)) ⌝ }
+    ensures { λ r. ⌜ ReadsDamaged n m0 (now (info .entry)) (now (parity .entry)) (now (flips .entry)) (now (capture .entry)) (now (back .entry))
+        (now («parity_back» .entry)) r (now (back .exit), now («parity_back» .exit)) ⌝ }
 {
     let coded = capture::code(n, m0, info, parity, capture);
     if coded.number != 0 {
@@ -108,8 +115,8 @@ pub fn code_edit(
     capture: &mut [u8],
     list: &mut [u64],
 ) -> Answer
-    ensures { λ r. ⌜ Demand3 n m0 block (now (info .entry)) (now (parity .entry)) (now (bits .entry)) (now («new_parity» .entry)) (now (capture .entry))
-        (now (list .entry)) r (now (capture .exit)) (now (list .exit)) ⌝ }
+    ensures { λ r. ⌜ EditsCoded n m0 block (now (info .entry)) (now (parity .entry)) (now (bits .entry)) (now («new_parity» .entry)) (now (capture .entry))
+        (now (list .entry)) r (now (capture .exit), now (list .exit)) ⌝ }
 {
     let coded = capture::code(n, m0, info, parity, capture);
     if coded.number != 0 {
@@ -118,7 +125,7 @@ pub fn code_edit(
     capture::edit(n, block, bits, new_parity, capture, list)
 }
 
-// Maps groups into a window and takes them out again.
+// The round trip of windows: maps groups into a window, and takes them out again where that was done.
 pub fn map_unmap(
     c: u64,
     f: u64,
@@ -127,7 +134,8 @@ pub fn map_unmap(
     window: &mut [u8],
     back: &mut [u8],
 ) -> Answer
-    ensures { λ r. ⌜ (r .number ≡ allDone → length (now (back .entry)) ≡ length (now (groups .entry)) → now (back .exit) ≡ now (groups .entry)) ⌝ }
+    ensures { λ r. ⌜ Outcome {B = List ℕ × List ℕ} (mapUnmapAnswer c f n (now (groups .entry)) (now (window .entry)) (now (back .entry)))
+        (mapUnmapLeaves c f n (now (groups .entry)) (now (window .entry)) (now (back .entry))) r (now (window .exit), now (back .exit)) ⌝ }
 {
     let mapped = mapping::map(c, f, n, groups, window);
     if mapped.number != 0 {

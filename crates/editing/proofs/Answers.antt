@@ -2,11 +2,11 @@
 use Prim.Native.Nat.{ℕ, _%_, _≤_, _<_}
 use mathlib.Core.Bool.{Bool, true, false, not, _&&_}
 use mathlib.Core.Path.{_≡_, refl, sym, ap, ap₂, _∙_}
-use mathlib.Core.List.{List, _++_}
+use mathlib.Core.List.{List}
 use native.Mathlib.Omega.{arith}
 use borrow.Author.Tests.{ltb-true, lt-ltb, le-ltb, not-false}
 use lib.Dec.{ltb, eqb}
-use lib.ListN.{length, getD, drop}
+use lib.ListN.{length, getD}
 use Rattle.bits.specs.Bits.{num, bitAt}
 use Rattle.bits.specs.Loops.{first, count}
 use Rattle.bits.proofs.Common.{and-left, and-right}
@@ -24,7 +24,7 @@ use Rattle.answer.proofs.Meets.{meets-done, meets-refused}
 use Rattle.sizes.specs.Sizes.{words, blocksOf}
 use Rattle.line.specs.Captures.{superAllowed}
 use Rattle.line.proofs.CaptureLaws.{super-frames, all-frames}
-use Rattle.editing.specs.Edit.{listed, listOf, editedCapture, spareSet, fails, editEarlyRows, editLateRows, editRows, editAnswer, editLeaves}
+use Rattle.editing.specs.Edit.{listed, spareSet, fails, editEarlyRows, editLateRows, editRows, editAnswer, edited, editLeaves}
 use Rattle.editing.specs.Steps.{Accepted, Passing}
 use Rattle.editing.proofs.Passes.{passing-capture, passing-list}
 
@@ -50,10 +50,6 @@ module _ (N b : ℕ) (bits parity cap list : List ℕ) where
   abbrev howMany : ℕ
   howMany = count (listed N b) (words N)
 
-  -- what the capture and the list hold where the edit is done
-  abbrev edited : List ℕ × List ℕ
-  edited = (editedCapture N b bits parity cap, listOf N b ++ drop howMany list)
-
   edit-rise : rising 0 rows ≡ true
   unfolding rising editEarlyRows editLateRows rowNumber
   edit-rise = refl
@@ -64,9 +60,9 @@ module _ (N b : ℕ) (bits parity cap list : List ℕ) where
   edit-exactly = exactly rows howMany edit-rise
 
   pub edit-demand-1 : {r : Answer} {left : List ℕ × List ℕ} → Outcome (editAnswer N b bits parity cap list) (editLeaves N b bits parity cap list) r left
-      → Demand1 rows howMany edited (cap, list) r left
+      → Demand1 rows howMany (edited N b bits parity cap list) (cap, list) r left
   unfolding editAnswer editLeaves
-  edit-demand-1 o = demand-1 rows howMany edited (cap, list) edit-rise o
+  edit-demand-1 o = demand-1 rows howMany (edited N b bits parity cap list) (cap, list) edit-rise o
 
   -- ---- what the code has found after `judge`
 
@@ -96,7 +92,7 @@ module _ (N b : ℕ) (bits parity cap list : List ℕ) where
     -- refused by 1, 2 or 3: nothing is written
     pub edit-refused : (r .number ≡ allDone → ⊥) → Outcome (editAnswer N b bits parity cap list) (editLeaves N b bits parity cap list) r (cap, list)
     unfolding editAnswer editLeaves
-    edit-refused h = meets-refused edited (early-refused early (editLateRows N b cap) 0 howMany judged h) h
+    edit-refused h = meets-refused (edited N b bits parity cap list) (early-refused early (editLateRows N b cap) 0 howMany judged h) h
 
   -- ---- and then number 9
 
@@ -120,7 +116,7 @@ module _ (N b : ℕ) (bits parity cap list : List ℕ) where
       -- at the first word that fails
       pub nine-outcome : w < words N → r ≡ refused listedFails w → Outcome (editAnswer N b bits parity cap list) (editLeaves N b bits parity cap list) r (cap, list)
       unfolding editLeaves editLateRows inTurn rowThen
-      nine-outcome l q = meets-refused edited (q ∙ sym (late ∙ rw (← found, lt-ltb w (words N) l))) (λ z. nine (sym (ap (λ (x : Answer). x .number) q) ∙ z))
+      nine-outcome l q = meets-refused (edited N b bits parity cap list) (q ∙ sym (late ∙ rw (← found, lt-ltb w (words N) l))) (λ z. nine (sym (ap (λ (x : Answer). x .number) q) ∙ z))
         where
           nine : listedFails ≡ allDone → ⊥
           nine e = omega arith

@@ -8,7 +8,7 @@ use native.Mathlib.Omega.{arith}
 use Rattle.bits.specs.Bits.{digit, bitOf, bitAt, Bits}
 use Rattle.bits.proofs.Packing.{bitOf-at, bitOf-packs}
 use Rattle.crc.specs.Crc.{remOf, shiftN}
-use Rattle.crc.proofs.Linear.{alone}
+use Rattle.crc.proofs.Changes.{alone}
 use Rattle.scrambler.specs.Scrambler.{o, period}
 use Rattle.scrambler.proofs.Rule.{o-lt}
 use Rattle.scrambler.proofs.Period.{within-period}

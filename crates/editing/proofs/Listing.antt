@@ -15,17 +15,12 @@ use Rattle.sizes.specs.Sizes.{fecBlocks, elementBits, superElements, fecElement
 use Rattle.line.specs.Slots.{slotOf, delay, elementIn, holds}
 use Rattle.line.proofs.SlotLaws.{held}
 use Rattle.editing.specs.Edit.{fecOf, blockFrom, elementFec, elementLocal, isPad, touches, listed, fails}
+use Rattle.editing.specs.Listed.{Holding}
 use Rattle.editing.specs.Steps.{firstElement, stretchFrom, stretchTo}
-use Rattle.editing.proofs.Touching.{Touch, touches-at, touches-some, element-before, element-past}
+use Rattle.editing.proofs.Touching.{touches-at, touches-some, element-before, element-past}
 use Rattle.editing.proofs.Picking.{In, count-few}
 
--- ---- what it means: the word holds element e of the client block's FEC block, and one of its bits is touched
-
-pub record Holding (N b w : ℕ) : Type 0 where
-  pub element : holds N w ≡ true
-  pub no-pad : elementIn w % superElements < fecElements * fecBlocks
-  pub block : elementFec (elementIn w) ≡ fecOf b
-  pub touch : Touch b (elementBits * elementLocal (elementIn w)) elementBits
+-- ---- what it means: the word holds an element of the client block's FEC block, and one of its bits is touched
 
 pad-test : (e : ℕ) → isPad e ≡ false → e % superElements < fecElements * fecBlocks
 unfolding isPad

@@ -1,6 +1,6 @@
 -- The laws of `picked`, and two laws of `count`: how many a test picks, from a numbering of those that it picks. Assumes nothing.
 use Prim.Native.Nat.{ℕ, zero, suc, _+_, _-_, _≤_, _<_}
-use mathlib.Core.Bool.{Bool, true, false, cond, not, _&&_}
+use mathlib.Core.Bool.{Bool, true, false, cond, not, _&&_, and-true, and-false}
 use mathlib.Core.Path.{_≡_, refl, sym, ap, _∙_}
 use mathlib.Core.List.{List, [], _∷_, _++_, append-nil, append-assoc}
 use mathlib.Core.Logic.{⊎-elim}
@@ -12,7 +12,7 @@ use lib.Dec.{eqb}
 use lib.ListN.{length, getD, set, drop, length-append, List·getD-append}
 use lib.Seq.{drop-cons, set-at, getD-at}
 use Rattle.bits.specs.Loops.{count}
-use Rattle.bits.proofs.Counting.{count-ext, count-add}
+use Rattle.bits.proofs.Counting.{count-ext, count-add, count-none}
 use Rattle.bits.proofs.Common.{clash, and-left}
 use Rattle.editing.specs.Edit.{picked}
 
@@ -127,19 +127,11 @@ without p x w = p w && not (eqb w x)
 
 without-other : (p : ℕ → Bool) (x w : ℕ) → (w ≡ x → ⊥) → without p x w ≡ p w
 unfolding without
-without-other p x w h = rw (ne-eqb w x h) (alone (p w))
-  where
-    alone : (b : Bool) → b && true ≡ b
-    alone true = refl
-    alone false = refl
+without-other p x w h = rw (ne-eqb w x h) (and-true (p w))
 
 without-here : (p : ℕ → Bool) (x : ℕ) → without p x x ≡ false
 unfolding without
-without-here p x = rw (eq-eqb x x refl) (none (p x))
-  where
-    none : (b : Bool) → b && false ≡ false
-    none true = refl
-    none false = refl
+without-here p x = rw (eq-eqb x x refl) (and-false (p x))
 
 without-true : (p : ℕ → Bool) (x w : ℕ) → without p x w ≡ true → (p w ≡ true) × (w ≡ x → ⊥)
 unfolding without
@@ -180,11 +172,6 @@ count-one-less p x (suc n) h e = by (ℕ-discrete n x) (λ l. count-one-less p x
     by : Dec (n ≡ x) → (x < n → count p n ≡ suc (count (without p x) n)) → cond (p n) (suc (count p n)) (count p n) ≡ suc (cond (without p x n) (suc (count (without p x) n)) (count (without p x) n))
     by (yes q) r = rw (q, e, without-here p x, count-before p x x (omega arith))
     by (no k) r = rw (without-other p x n k) (cond-suc (p n) (count p n) (count (without p x) n) (r (omega arith)))
-
-count-none : (p : ℕ → Bool) (n : ℕ) → ((w : ℕ) → w < n → p w ≡ false) → count p n ≡ 0
-unfolding count
-count-none p zero h = refl
-count-none p (suc n) h = rw (h n (omega arith)) (count-none p n (λ w l. h w (omega arith)))
 
 -- a test that picks at most s 0, .., s (k - 1) picks at most k
 pub count-few : (s : ℕ → ℕ) (k : ℕ) (p : ℕ → Bool) (n : ℕ) → ((w : ℕ) → p w ≡ true → In s k w) → count p n ≤ k

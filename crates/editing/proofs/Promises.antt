@@ -15,6 +15,7 @@ use Rattle.line.specs.Words.{wordsOf, fecIn}
 use Rattle.line.proofs.SlotLaws.{element-slot, slot-lt, slot-once, holds-slot}
 use Rattle.line_order.proofs.OrderLaws.{word-laid, word-lt, byte-word}
 use Rattle.editing.specs.Edit.{blockFrom, editedFec, elementLocal, touches, listed, listOf, editedWord, editedCapture}
+use Rattle.editing.specs.Listed.{Lists}
 use Rattle.editing.specs.Steps.{firstElement}
 use Rattle.editing.proofs.Touching.{element-tail, element-block, touches-some}
 use Rattle.editing.proofs.Picking.{length-picked, picked-entry, picked-rises, picked-room, picked-has, count-few, count-many}
@@ -78,15 +79,7 @@ module _ (N b : ℕ) (within : b < blocksOf N) where
       let many = count-many (slotNo b) (listedCount b) (listed N b) (words N) slot-listed slots-differ in
       omega arith
 
--- THE LIST: as long as the count, 141 or 142; strictly rising; only listed words, and each of them
-pub record Lists (N b : ℕ) (l : List ℕ) : Type 0 where
-  pub long : length l ≡ count (listed N b) (words N)
-  pub at-least : 141 ≤ length l
-  pub at-most : length l ≤ 142
-  pub rises : (i j : ℕ) → i < j → j < length l → getD l i 0 < getD l j 0
-  pub only : (i : ℕ) → i < length l → (getD l i 0 < words N) × (listed N b (getD l i 0) ≡ true)
-  pub each : (w : ℕ) → w < words N → listed N b w ≡ true → (count (listed N b) w < length l) × (getD l (count (listed N b) w) 0 ≡ w)
-
+-- THE LIST
 pub list-is : (N b : ℕ) → b < blocksOf N → Lists N b (listOf N b)
 unfolding listOf
 list-is N b h =

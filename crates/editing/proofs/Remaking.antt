@@ -7,6 +7,7 @@ use native.Mathlib.Omega.{arith}
 use borrow.Author.Tests.{eq-eqb}
 use Rattle.bits.specs.Bits.{digit, bitAt, pack, from, added, Bits}
 use Rattle.bits.proofs.Packing.{bitOf-lt, bitOf-packs, packs-ext}
+use Rattle.bits.proofs.Common.{cond-bit}
 use Rattle.scrambler.specs.Scrambler.{o, period}
 use Rattle.hamming.specs.Code.{wordOf}
 use Rattle.hamming.proofs.Words.{coded-ext}
@@ -23,11 +24,11 @@ use Rattle.editing.specs.Steps.{newInfoBit, newBit, newElement, onePerio
 use Rattle.editing.proofs.Changing.{sequence-from, received-at}
 use Rattle.editing.proofs.Listing.{listed-holding, local-lt}
 
--- ---- bits
+-- bit i of element e lies in its FEC block
+pub local-place-lt : (e i : ℕ) → i < elementBits → elementBits * elementLocal e + i < fecBits
+local-place-lt e i h = omega (arith, local-lt e)
 
-cond-bit : (t : Bool) (x y : ℕ) → x < 2 → y < 2 → cond t x y < 2
-cond-bit true x y p q = p
-cond-bit false x y p q = q
+-- ---- bits
 
 module _ (b : ℕ) (bits parity : List ℕ) (crc k x : ℕ) where
   abbrev inInfo : ℕ → ℕ
@@ -157,11 +158,8 @@ word-made N b bits parity cap w crc old h c q =
     (λ i m. sym (held-bit N (elementOf (superOf (editedFec b bits parity F))) w i (l .element)
     ∙ element-of (editedFec b bits parity F) e i (l .no-pad) m
     ∙ ap (λ (g : ℕ → ℕ). (g (elementBits * elementLocal e + i) + o (elementBits * (e % superElements) + i)) % 2) (edited-here b bits parity F t (l .block))
-    ∙ edited-new b bits parity (F t) (elementBits * (e % superElements) + i) (bitAt (wordIn cap w) i) (bitOf-lt 8 (wordIn cap w) i) (elementBits * elementLocal e + i) (place-lt e i m)
+    ∙ edited-new b bits parity (F t) (elementBits * (e % superElements) + i) (bitAt (wordIn cap w) i) (bitOf-lt 8 (wordIn cap w) i) (elementBits * elementLocal e + i) (local-place-lt e i m)
     (received-at (wordIn cap) e i (l .no-pad) m ∙ ap (λ (x : ℕ). (bitAt (wordIn cap x) i + o (elementBits * (e % superElements) + i)) % 2) (held N w (l .element) .back)))))
-  where
-    place-lt : (e i : ℕ) → i < elementBits → elementBits * elementLocal e + i < fecBits
-    place-lt e i h = omega (arith, local-lt e)
 
 -- ---- as the code makes it
 

@@ -1,6 +1,6 @@
 -- Which bits of an FEC block an edit touches, and which elements hold one of them. Assumes nothing.
 use Prim.Native.Nat.{ℕ, zero, suc, _+_, _-_, _*_, _/_, _≤_, _<_}
-use mathlib.Core.Bool.{Bool, true, false, _&&_, _||_}
+use mathlib.Core.Bool.{Bool, true, false, _&&_, _||_, and-false}
 use mathlib.Core.Path.{_≡_, refl, sym, ap, _∙_}
 use mathlib.Core.Logic.{⊎-elim}
 use native.Mathlib.Nat.{not-suc-le-zero, eq-or-lt-of-le, le-of-suc-le-suc}
@@ -10,6 +10,7 @@ use lib.Dec.{ltb, leb}
 use Rattle.bits.proofs.Common.{clash}
 use Rattle.sizes.specs.Sizes.{blockBits, infoBits, mbasFrom, parityFrom, elementBits, infoElements}
 use Rattle.editing.specs.Edit.{blockFrom, inBlock, touched, touches}
+use Rattle.editing.specs.Listed.{Touch}
 
 -- ---- the client block's own bits
 
@@ -23,11 +24,7 @@ block-before b i h = rw (lt-leb (blockFrom b) i h)
 
 pub block-past : (b i : ℕ) → blockFrom b + blockBits ≤ i → inBlock b i ≡ false
 unfolding inBlock
-block-past b i h = rw (le-ltb i (blockFrom b + blockBits) h) (none (leb (blockFrom b) i))
-  where
-    none : (x : Bool) → x && false ≡ false
-    none true = refl
-    none false = refl
+block-past b i h = rw (le-ltb i (blockFrom b + blockBits) h) (and-false (leb (blockFrom b) i))
 
 -- ---- one bit among n
 
@@ -51,11 +48,6 @@ touches-at b i (suc n) j h e =
     le-of q = omega arith
 
 -- .. and only such a bit does
-pub record Touch (b i n : ℕ) : Type 0 where
-  pub bit : ℕ
-  pub within : bit < n
-  pub there : touched b (i + bit) ≡ true
-
 pub touches-some : (b i n : ℕ) → touches b i n ≡ true → Touch b i n
 unfolding touches
 touches-some b i zero e = absurd (clash e refl)

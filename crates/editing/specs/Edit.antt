@@ -60,7 +60,7 @@ editedFec b bits parity F t = cond (eqb t (fecOf b)) (editedBits b bits parity (
 unfoldable pub touched : ℕ → ℕ → Bool
 touched b i = inBlock b i || (leb infoBits i && ltb i mbasFrom) || leb parityFrom i
 
--- element e is one of FEC block t, its local element m: bit i of it is bit 119 m + i of the block
+-- element e is one of FEC block t, its local element m: bit i of it is bit 119 m + i of the block (`element-of` of proofs/Remaking.antt)
 unfoldable pub elementFec : ℕ → ℕ
 elementFec e = fecBlocks * (e / superElements) + e % superElements / fecElements
 
@@ -81,7 +81,7 @@ listed N b w =
     holds N w && not (isPad (elementIn w)) && eqb (elementFec (elementIn w)) (fecOf b)
     && touches b (elementBits * elementLocal (elementIn w)) elementBits
 
--- the numbers below n that p picks, rising
+-- the numbers below n that p picks, rising: `list-is` of proofs/Promises.antt says what the list made so is
 unfoldable pub picked : (ℕ → Bool) → ℕ → List ℕ
 picked p zero = []
 picked p (suc n) = picked p n ++ cond (p n) (n ∷ []) []
@@ -129,8 +129,10 @@ editRows N b bits parity cap list =
 unfoldable pub editAnswer : ℕ → ℕ → List ℕ → List ℕ → List ℕ → List ℕ → Answer
 editAnswer N b bits parity cap list = answerOf (editRows N b bits parity cap list) (count (listed N b) (words N))
 
--- what the capture and the list hold afterwards; entries past the listed words stay
+-- what the capture and the list hold where it is done; entries past the listed words stay
+abbrev pub edited : ℕ → ℕ → List ℕ → List ℕ → List ℕ → List ℕ → List ℕ × List ℕ
+edited N b bits parity cap list = (editedCapture N b bits parity cap, listOf N b ++ drop (count (listed N b) (words N)) list)
+
+-- what they hold afterwards
 unfoldable pub editLeaves : ℕ → ℕ → List ℕ → List ℕ → List ℕ → List ℕ → List ℕ × List ℕ
-editLeaves N b bits parity cap list =
-    written (editAnswer N b bits parity cap list)
-    (editedCapture N b bits parity cap, listOf N b ++ drop (count (listed N b) (words N)) list) (cap, list)
+editLeaves N b bits parity cap list = written (editAnswer N b bits parity cap list) (edited N b bits parity cap list) (cap, list)

@@ -1,8 +1,8 @@
 // Editing a capture: one client block and the parity of its FEC block replaced in place, and the words listed that hold them.
 use answer::Answer;
 ghost use mathlib.Core.Path.{_≡_};
-ghost use mathlib.Core.Bool.{not, _&&_};
-ghost use lib.Dec.{ltb, eqb};
+ghost use mathlib.Core.Bool.{not};
+ghost use lib.Dec.{eqb};
 ghost use Prim.Native.Nat.{ℕ, _+_, _*_, _%_, _≤_, _<_};
 ghost use lib.ListN.{length};
 ghost use Rattle.bits.specs.Bits.{bitAt, byteOf, pack};
@@ -12,7 +12,6 @@ ghost use Rattle.answer.specs.Rows.{answerOf};
 ghost use Rattle.hamming.specs.Code.{checksOf};
 ghost use Rattle.lent.specs.Lent.{byteTable};
 ghost use Rattle.sizes.specs.Sizes.{blockBits, fecBits, fecBlocks, elementBits, superElements, fecElements, infoElements, captureLength, words, blocksOf, listLength};
-ghost use Rattle.line.specs.Captures.{superAllowed};
 ghost use Rattle.line.specs.Slots.{elementIn};
 ghost use Rattle.line_order.specs.Order.{wordIn};
 ghost use Rattle.line.specs.Words.{fecIn};
@@ -58,18 +57,11 @@ pub fn edit(
     edit_checked(n as usize, block as usize, bits, parity, capture, list)
 }
 
-// Whether a capture of n super frames has the client block.
-fn has_block(n: u64, block: u64) -> bool
-    ensures { λ r. ⌜ r ≡ (superAllowed n && ltb block (blocksOf n)) ⌝ }
-{
-    line::super_allowed(n) && block / (sizes::SUPER_CLIENT_BLOCKS as u64) < n
-}
-
 // Numbers 1 to 3, from the numbers, the buffers' lengths and whether a spare bit is set.
 fn judge(n: u64, block: u64, bits: u64, parity: u64, capture: u64, list: u64, spare: bool) -> Answer
     ensures { λ r. ⌜ r ≡ answerOf (editEarlyRows n block bits parity capture list spare) 0 ⌝ }
 {
-    if !has_block(n, block) {
+    if !line::one_of(n, sizes::SUPER_CLIENT_BLOCKS as u32, block) {
         return answer::refuse(answer::OUTSIDE_SET, 0);
     }
     let capture_bytes = sizes::SUPER_CAPTURE_BYTES as u64 * n + sizes::FILLER_BYTES as u64;

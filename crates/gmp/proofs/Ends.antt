@@ -5,7 +5,8 @@ use mathlib.Core.Path.{_≡_, sym, ap, _∙_}
 use native.Mathlib.Nat.{add-mul, add-suc, mul-le-mul-right, div-mul-le-self, lt-div-mul-add}
 use native.Mathlib.Decide.{decLe}
 use native.Mathlib.Omega.{arith}
-use Rattle.gmp.specs.Places.{isData, Place}
+use Rattle.gmp.specs.Places.{isData}
+use Rattle.gmp.specs.Steps.{Place}
 use Rattle.gmp.specs.Runs.{EndsRun, lastOfRun, runsFrom}
 use Rattle.gmp.proofs.Residues.{data-of, stuff-of, data-residue, stuff-residue, residue-up, residue-down, split, last-residue}
 use Rattle.sizes.specs.Sizes.{places}

@@ -1,4 +1,5 @@
 -- The laws of `specs/`.
+pub mod Allowed
 pub mod Residues
 pub mod Stretches
 pub mod Ends

@@ -6,7 +6,8 @@ use native.Mathlib.Nat.{add-mul, mul-add, mul-le-mul}
 use native.Mathlib.Omega.{arith}
 use borrow.Author.Tests.{lt-ltb, le-ltb, ltb-true, ltb-false}
 use Rattle.sizes.specs.Sizes.{places}
-use Rattle.gmp.specs.Places.{isData, Place}
+use Rattle.gmp.specs.Places.{isData}
+use Rattle.gmp.specs.Steps.{Place}
 
 -- ---- the kind, from the residue and back
 

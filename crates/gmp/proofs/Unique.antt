@@ -12,6 +12,7 @@ use Rattle.gmp.specs.declared.told.Run.{Run}
 use Rattle.gmp.proofs.run.Reads as run
 use Rattle.gmp.proofs.runs.Reads as runs
 use Rattle.gmp.proofs.data_in.Reads as data-in
+use Rattle.gmp.proofs.outside_stretch.Reads as outside-stretch
 
 -- the document's number tells the kind
 same-kind : (a b : Kind) → kindNumber a ≡ kindNumber b → a ≡ b
@@ -29,11 +30,14 @@ told-once x y e =
     same-run (x .number) (y .number) (x .last) (y .last) (x .kind) (y .kind) (ap (λ (z : Told). z .number) e)
     (same-kind (x .kind) (y .kind) (ap (λ (z : Told). z .kind) e)) (ap (λ (z : Told). z .last) e)
 
-pub only-run : (κs : _) (a : _) (x y : _) (s t : _) → run.Post κs a x s → run.Post κs a y t → x ≡ y
-only-run κs a x y s t p q = told-once x y (only p q)
+pub one-run : (κs : _) (a : _) (x y : _) (s t : _) → run.Post κs a x s → run.Post κs a y t → x ≡ y
+one-run κs a x y s t p q = told-once x y (only p q)
 
-pub only-runs : (κs : _) (a : _) (x y : _) (s t : _) → runs.Post κs a x s → runs.Post κs a y t → x ≡ y
-only-runs κs a x y s t p q = only p q
+pub one-runs : (κs : _) (a : _) (x y : _) (s t : _) → runs.Post κs a x s → runs.Post κs a y t → x ≡ y
+one-runs κs a x y s t p q = only p q
 
-pub only-data-in : (κs : _) (a : _) (x y : _) (s t : _) → data-in.Post κs a x s → data-in.Post κs a y t → x ≡ y
-only-data-in κs a x y s t p q = only (p .is) (q .is)
+pub one-data-in : (κs : _) (a : _) (x y : _) (s t : _) → data-in.Post κs a x s → data-in.Post κs a y t → x ≡ y
+one-data-in κs a x y s t p q = only (p .is) (q .is)
+
+pub one-outside-stretch : (κs : _) (a : _) (x y : _) (s t : _) → outside-stretch.Post κs a x s → outside-stretch.Post κs a y t → x ≡ y
+one-outside-stretch κs a x y s t p q = only p q

@@ -1,11 +1,10 @@
 // GMP places and their runs: document 01, "GMP places".
 ghost use mathlib.Core.Path.{_≡_};
 ghost use mathlib.Core.Bool.{true, false};
-ghost use Rattle.answer.specs.Numbers.{outsideSet};
-ghost use Rattle.answer.specs.Rows.{refused};
-ghost use Rattle.gmp.specs.Places.{isData, Place, outsideStretch, DataIn};
+ghost use Rattle.gmp.specs.Places.{isData, outsideStretch};
 ghost use Rattle.gmp.specs.Runs.{lastOfRun, runsFrom};
 ghost use Rattle.gmp.specs.Answers.{outsidePlace, told, runOf, runsOf};
+ghost use Rattle.gmp.specs.Steps.{Place, DataIn};
 
 mod told;
 
@@ -44,7 +43,7 @@ pub fn runs(c: u64, j: u64) -> Answer
     ensures { λ r. ⌜ r ≡ runsOf c j ⌝ }
 {
     if outside_place(c, j) {
-        return outside();
+        return answer::refuse(answer::OUTSIDE_SET, 0);
     }
     if is_data(c, j) {
         return answer::granted(data_runs(c, j));
@@ -62,15 +61,21 @@ pub fn data_in(c: u64, f: u64, n: u64) -> u64
     (f - 1 + n) * c / PLACES - (f - 1) * c / PLACES
 }
 
-// Refused: a number is outside its stated set.
-fn outside() -> Answer
-    ensures { λ r. ⌜ r ≡ refused outsideSet 0 ⌝ }
+// Whether c is no count or the n places from f on are not all places.
+pub fn outside_stretch(c: u64, f: u64, n: u64) -> bool
+    ensures { λ r. ⌜ r ≡ outsideStretch c f n ⌝ }
 {
-    Answer {
-        number: answer::OUTSIDE_SET,
-        place: 0,
-        count: 0,
+    if PLACES < c {
+        return true;
     }
+    if f < 1 {
+        return true;
+    }
+    // f + n could wrap, so n is taken to the other side.
+    if PLACES < n {
+        return true;
+    }
+    PLACES - n + 1 < f
 }
 
 // Whether c is no count or j no place.
@@ -138,21 +143,4 @@ fn stuff_runs(c: u64, j: u64) -> u64
         return 1;
     }
     1 + data_runs(c, last + 1)
-}
-
-// Whether c is no count or the n places from f on are not all places.
-fn outside_stretch(c: u64, f: u64, n: u64) -> bool
-    ensures { λ r. ⌜ r ≡ outsideStretch c f n ⌝ }
-{
-    if PLACES < c {
-        return true;
-    }
-    if f < 1 {
-        return true;
-    }
-    // f + n could wrap, so n is taken to the other side.
-    if PLACES < n {
-        return true;
-    }
-    PLACES - n + 1 < f
 }

@@ -10,6 +10,7 @@ use lib.ListN.{length}
 use Rattle.bits.specs.Bits.{digit, bitAt, pack, Bits, Bytes}
 use Rattle.bits.proofs.Numbers.{digit-lt}
 use Rattle.bits.proofs.Packing.{bitOf-lt, packs-ext, packs-bitOf}
+use Rattle.bits.proofs.Common.{cond-bit}
 use Rattle.sizes.specs.Sizes.{infoBits, crcBits, mbasBits, parityBits, mbasFrom, parityFrom, fecBits, infoLength, parityLength}
 use Rattle.line.specs.Fec.{mbasOf, fields, infoBit, parityBit, blockCrc, fecBit}
 use Rattle.line.specs.Frames.{infoOf, parityOf}
@@ -42,11 +43,9 @@ module _ (a b c d : ℕ → ℕ) where
   pub fields-bits : Bits a → Bits b → Bits c → Bits d → Bits (fields a b c d)
   unfolding fields
   fields-bits ha hb hc hd i =
-      pick (ltb i infoBits) (a i) _ (ha i) (pick (ltb i mbasFrom) (b (i - infoBits)) _ (hb (i - infoBits)) (pick (ltb i parityFrom) (c (i - mbasFrom)) _ (hc (i - mbasFrom)) (hd (i - parityFrom))))
-    where
-      pick : (t : Bool) (x y : ℕ) → x < 2 → y < 2 → cond t x y < 2
-      pick true x y hx hy = hx
-      pick false x y hx hy = hy
+      cond-bit (ltb i infoBits) (a i) _ (ha i)
+      (cond-bit (ltb i mbasFrom) (b (i - infoBits)) _ (hb (i - infoBits))
+      (cond-bit (ltb i parityFrom) (c (i - mbasFrom)) _ (hc (i - mbasFrom)) (hd (i - parityFrom))))
 
 over : (i a : ℕ) → a ≤ i → a + (i - a) ≡ i
 over i a h = omega arith

@@ -7,6 +7,7 @@ use native.Mathlib.Omega.{arith}
 use borrow.Author.Tests.{lt-ltb, le-ltb}
 use lib.Dec.{ltb}
 use Rattle.bits.specs.Bits.{Bits}
+use Rattle.bits.proofs.Common.{cond-bit}
 use Rattle.scrambler.specs.Scrambler.{o}
 use Rattle.sizes.specs.Sizes.{fecBits, fecBlocks, padFrom, superBits, elementBits, superElements, fecElements}
 use Rattle.line.specs.Frames.{superOf, elementOf, superFrom, fecFrom}
@@ -52,11 +53,8 @@ super-fec F f b i hb hi =
 
 pub super-bits : (F : ℕ → ℕ → ℕ) (f : ℕ) → ((t : ℕ) → Bits (F t)) → Bits (superOf F f)
 unfolding superOf
-super-bits F f h k = pick (ltb k padFrom) (F (fecBlocks * f + k / fecBits) (k % fecBits)) (h (fecBlocks * f + k / fecBits) (k % fecBits))
-  where
-    pick : (t : Bool) (x : ℕ) → x < 2 → cond t x 0 < 2
-    pick true x p = p
-    pick false x p = omega arith
+super-bits F f h k =
+    let t = fecBlocks * f + k / fecBits in cond-bit (ltb k padFrom) (F t (k % fecBits)) 0 (h t (k % fecBits)) (omega arith)
 
 -- for super frames S that are those of F
 pub fec-back : (F S : ℕ → ℕ → ℕ) (t i : ℕ) → i < fecBits → ((k : ℕ) → k < superBits → S (t / fecBlocks) k ≡ superOf F (t / fecBlocks) k) → fecFrom S t i ≡ F t i

@@ -9,7 +9,7 @@ use lib.Dec.{ltb, leb}
 use Rattle.bits.specs.Loops.{count}
 use Rattle.bits.specs.Bits.{Bits}
 use Rattle.bits.proofs.Counting.{count-ext}
-use Rattle.bits.proofs.Common.{and-left, and-right}
+use Rattle.bits.proofs.Common.{and-left, and-right, cond-bit}
 use Rattle.sizes.specs.Sizes.{superElements, words, rows, longestWait}
 use Rattle.line.specs.Slots.{delay, slotOf, elementIn, holds, slotBit}
 
@@ -107,13 +107,9 @@ pub held-bit : (N : ℕ) (E : ℕ → ℕ → ℕ) (w i : ℕ) → holds N w ≡
 unfolding slotBit
 held-bit N E w i h = rw h
 
-bit-by : (b : Bool) (x : ℕ) → x < 2 → cond b x 0 < 2
-bit-by true x h = h
-bit-by false x h = omega arith
-
 pub slot-bits : (N : ℕ) (E : ℕ → ℕ → ℕ) (w : ℕ) → ((e : ℕ) → Bits (E e)) → Bits (slotBit N E w)
 unfolding slotBit
-slot-bits N E w h i = bit-by (holds N w) (E (elementIn w) i) (h (elementIn w) i)
+slot-bits N E w h i = cond-bit (holds N w) (E (elementIn w) i) 0 (h (elementIn w) i) (omega arith)
 
 -- ---- filler: 240 slots before the first elements have come through, 240 from the flush
 

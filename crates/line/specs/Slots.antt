@@ -13,7 +13,8 @@ delay e = rowWait * (rows - 1 - e % rows)
 unfoldable pub slotOf : ℕ → ℕ
 slotOf e = e + delay e
 
--- the element that word w holds, and whether it holds one of N super frames; if not, it is filler
+-- the element that word w holds, and whether it holds one of N super frames; if not, it is filler. The way back of `slotOf`: `element-slot`, `held`
+-- and `slot-once` of proofs/SlotLaws.antt
 unfoldable pub elementIn : ℕ → ℕ
 elementIn w = w - delay w
 

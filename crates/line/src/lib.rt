@@ -1,7 +1,8 @@
 // The line: total functions for the layers of document 01 that coding, reading and editing share.
 ghost use mathlib.Core.Bool.{_&&_};
 ghost use mathlib.Core.Path.{_≡_};
-ghost use Prim.Native.Nat.{_/_, _<_};
+ghost use Prim.Native.Nat.{_*_, _/_, _<_};
+ghost use lib.Dec.{ltb};
 ghost use Rattle.line.specs.Captures.{superAllowed};
 ghost use Rattle.line.specs.Fec.{mbasAllowed, mbasOf};
 ghost use Rattle.line.specs.Slots.{slotOf, delay, elementIn, holds};
@@ -25,6 +26,13 @@ pub fn numbers_allowed(n: u64, m0: u64) -> bool
     ensures { λ r. ⌜ r ≡ (superAllowed n && mbasAllowed m0) ⌝ }
 {
     super_allowed(n) && mbas_allowed(m0)
+}
+
+// Whether x is one of the things of which a super frame has so many, counted from 0 over a capture of n super frames.
+pub fn one_of(n: u64, each: u32, x: u64) -> bool
+    ensures { λ r. ⌜ r ≡ (superAllowed n && ltb x (each * n)) ⌝ }
+{
+    super_allowed(n) && x < each as u64 * n
 }
 
 // The number that FEC block t carries.

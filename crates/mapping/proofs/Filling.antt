@@ -9,10 +9,12 @@ use lib.Dec.{ltb}
 use Rattle.bits.specs.Bits.{tabulate, byteOf, pack}
 use Rattle.gmp.specs.Places.{isData, dataFrom, dataIn}
 use Rattle.windows.specs.Windows.{Window}
-use Rattle.mapping.specs.Groups.{windowBit, groupPlace, groupsBit, piece, pairBit}
+use Rattle.mapping.specs.Groups.{windowBit, groupPlace, groupsBit}
+use Rattle.mapping.specs.Steps.{piece, pairBit}
 use Rattle.gmp.proofs.Floor.{data-grows}
 use Rattle.gmp.proofs.Counts.{data-inside}
-use Rattle.windows.proofs.Judging.{stretch-of, data-window}
+use Rattle.windows.proofs.Allowed.{stretch-of}
+use Rattle.windows.proofs.Judging.{data-window}
 use Rattle.sizes.specs.Sizes.{groupBits, pairBytes}
 use Rattle.mapping.proofs.Pairs.{pack-part}
 

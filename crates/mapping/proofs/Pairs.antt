@@ -12,7 +12,7 @@ use Rattle.bits.proofs.Lists.{tabulate-ext, Filled, filled-block}
 use Rattle.bits.proofs.Numbers.{num-ext, num-split, num-front, num-zero}
 use Rattle.bits.proofs.Packing.{bitOf-lt}
 use Rattle.sizes.specs.Sizes.{groupBits}
-use Rattle.mapping.specs.Groups.{piece, pairBit}
+use Rattle.mapping.specs.Steps.{piece, pairBit}
 
 piece-lt : (s : List ℕ) (on : Bool) → Bits (piece s on)
 piece-lt s true i = bitOf-lt 8 s i

@@ -11,9 +11,11 @@ use Rattle.bits.specs.Loops.{first}
 use Rattle.bits.proofs.LoopLaws.{First, first-holds, first-is, first-none}
 use Rattle.gmp.specs.Places.{isData, dataFrom, dataIn}
 use Rattle.windows.specs.Windows.{Window}
-use Rattle.mapping.specs.Groups.{groupPlace, GroupAt}
+use Rattle.mapping.specs.Groups.{groupPlace}
+use Rattle.mapping.specs.Steps.{GroupAt}
 use Rattle.gmp.proofs.Counts.{before-product}
-use Rattle.windows.proofs.Judging.{stretch-of, data-window}
+use Rattle.windows.proofs.Allowed.{stretch-of}
+use Rattle.windows.proofs.Judging.{data-window}
 use Rattle.sizes.specs.Sizes.{places}
 use Rattle.gmp.proofs.Floor.{before, data-split, data-le, data-more, data-mono}
 

@@ -1,27 +1,29 @@
--- Unmapping what was mapped gives the groups back. Assumes nothing.
+-- Unmapping what was mapped gives the groups back: the law of specs/RoundTrip.antt. Assumes nothing.
 use Prim.Native.Nat.{ℕ, zero, suc, _+_, _-_, _*_, _/_, _%_, _^_, _≤_, _<_}
 use mathlib.Core.Bool.{Bool, true, false, cond, not}
 use mathlib.Core.Path.{_≡_, refl, sym, ap, _∙_}
 use mathlib.Core.List.{List}
 use native.Mathlib.Nat.{zero-div}
 use native.Mathlib.Omega.{arith}
-use borrow.Author.Tests.{ltb-true, ltb-false, eq-eqb, eqb-true, not-false}
+use borrow.Author.Tests.{ltb-true, ltb-false, eq-eqb, ne-eqb, eqb-true, not-false}
 use lib.Dec.{ltb, eqb}
 use lib.ListN.{length}
 use Rattle.bits.specs.Bits.{num, digit, bitAt, pack, Bits, Bytes}
 use Rattle.bits.proofs.Numbers.{digit-num}
 use Rattle.bits.proofs.Packing.{bitOf-lt, bitOf-packs, packs-bitOf, packs-ext, length-packs}
 use Rattle.answer.specs.Numbers.{allDone}
-use Rattle.answer.specs.Rows.{done}
+use Rattle.answer.specs.Outcomes.{Outcome, written}
+use Rattle.answer.specs.Steps.{inTurn, rowThen, faultsThen}
 use Rattle.answer.specs.declared.Answer.{Answer}
-use Rattle.answer.proofs.Meets.{written-done}
+use Rattle.answer.proofs.Turns.{in-turn, length-right}
 use Rattle.gmp.specs.Places.{isData, dataFrom}
 use Rattle.windows.specs.Windows.{Window, spareSet}
-use Rattle.mapping.specs.Groups.{windowBit, groupPlace, groupsBit, Mapped, Unmapped}
-use Rattle.windows.specs.Answers.{mapAnswer, unmapAnswer}
+use Rattle.mapping.specs.Groups.{windowBit, groupPlace, groupsBit}
+use Rattle.mapping.specs.RoundTrip.{backAnswer, mapUnmapAnswer, mapUnmapLeaves, MapUnmap, refused-first, went-on}
+use Rattle.windows.specs.Answers.{mapAnswer, unmapRows, unmapAnswer}
 use Rattle.mapping.proofs.Ranks.{Stands, stands}
 use Rattle.sizes.specs.Sizes.{groupBits, groupBytes, windowBytes}
-use Rattle.windows.proofs.Judging.{data-window, map-taken, map-done, unmap-done}
+use Rattle.windows.proofs.Judging.{MapTaken, map-taken}
 
 window-lt : (c f : ℕ) (g : List ℕ) → Bits (windowBit c f g)
 unfolding windowBit
@@ -113,16 +115,26 @@ module _ (c f n : ℕ) (g : List ℕ) (w : Window c f n) (spare : spareSet (data
   back-bytes b l =
       packs-ext 8 (groupBytes (dataFrom c f n)) (groupsBit c f n out) (bitAt g) back-bit ∙ ap (λ (k : ℕ). pack k (bitAt g)) (sym l) ∙ packs-bitOf 8 g b
 
--- THE ROUND TRIP: where mapping was done, unmapping its window into a buffer of the groups' length is done with the same answer, and gives the groups back
-pub round-trip : (c f n : ℕ) (g w g₀ : List ℕ) (r r′ : Answer) (out back : List ℕ) → Bytes g → Mapped c f n g w r out → r .number ≡ allDone → length g₀ ≡ length g → Unmapped c f n out g₀ r′ back
-    → (r′ ≡ r) × (back ≡ g)
-round-trip c f n g w g₀ r r′ out back b m z l u =
-    let t = map-taken c f n g (length w) (m .told) z in
-    let d = dataFrom c f n in
-    let counted = sym (data-window c f n (t .window)) in
-    let made : out ≡ pack (windowBytes n) (windowBit c f g) = m .kept ∙ written-done (mapAnswer c f n g (length w)) (pack (windowBytes n) (windowBit c f g)) w (ap (λ (x : Answer). x .number) (sym (m .told)) ∙ z) in
-    let long : length out ≡ windowBytes n = ap length made ∙ length-packs 8 (windowBytes n) (windowBit c f g) in
-    let first : done d ≡ mapAnswer c f n g (length w) = map-done c f n g (length w) refl (t .numbers) counted (t .groups-length) (t .window-length) refl (t .spare) refl in
-    let second : done d ≡ unmapAnswer c f n (length out) (length g₀) = unmap-done c f n (length out) (length g₀) refl (t .numbers) counted long (l ∙ t .groups-length) refl in
-    let given : back ≡ pack (groupBytes d) (groupsBit c f n out) = u .kept ∙ written-done (unmapAnswer c f n (length out) (length g₀)) (pack (groupBytes d) (groupsBit c f n out)) g₀ (ap (λ (x : Answer). x .number) (sym second)) in
-    (u .told ∙ sym second ∙ first ∙ sym (m .told), given ∙ ap (λ (x : List ℕ). pack (groupBytes d) (groupsBit c f n x)) made ∙ back-bytes c f n g (t .window) (t .spare) b (t .groups-length))
+-- what unmapping answers to a window that was mapped
+back-answer : (c f n : ℕ) (g b out : List ℕ) {l : ℕ} → MapTaken c f n g l → length out ≡ windowBytes n → unmapAnswer c f n (length out) (length b) ≡ backAnswer c f n g b
+unfolding unmapAnswer backAnswer inTurn rowThen faultsThen
+back-answer c f n g b out t long =
+    rw (in-turn (unmapRows c f n (length out) (length b)) (dataFrom c f n), t .numbers, length-right long, t .groups-length)
+
+-- THE ROUND TRIP: two calls that meet the contracts of mapping and unmapping answer and leave what `RoundTrip` says, whatever they were asked
+module _ (c f n : ℕ) (g w b : List ℕ) (bytes : Bytes g) where
+  abbrev mapping : Answer
+  mapping = mapAnswer c f n g (length w)
+
+  pub round-trip : {r : Answer} {left : List ℕ × List ℕ} → MapUnmap c f n g w b r left → Outcome (mapUnmapAnswer c f n g w b) (mapUnmapLeaves c f n g w b) r left
+  unfolding mapUnmapAnswer mapUnmapLeaves written
+  round-trip {r} (refused-first m h) =
+      let e : eqb (mapping .number) allDone ≡ false = ne-eqb (mapping .number) allDone (λ z. h (ap (λ (x : Answer). x .number) (m .told) ∙ z)) in
+      record { told = rw e (m .told); kept = rw e (ap (λ (x : List ℕ). (x, b)) (rw e at (m .kept))) }
+  round-trip (went-on {m} {r} {out} {back} p z u) =
+      let t = map-taken c f n g (length w) (p .told) z in
+      let e : eqb (mapping .number) allDone ≡ true = eq-eqb (mapping .number) allDone (ap (λ (x : Answer). x .number) (sym (p .told)) ∙ z) in
+      let made : out ≡ pack (windowBytes n) (windowBit c f g) = rw e at (p .kept) in
+      let says = back-answer c f n g b out t (ap length made ∙ length-packs 8 (windowBytes n) (windowBit c f g)) in
+      let same = back-bytes c f n g (t .window) (t .spare) bytes (t .groups-length) in
+      record { told = rw e (u .told ∙ says); kept = rw (e, u .kept, says, made, same) }

@@ -7,9 +7,9 @@ use Rattle.mapping.proofs.map.Reads as map
 use Rattle.mapping.proofs.unmap.Reads as unmap
 
 -- s and t are the two states at exit; their last part is what is left in `window`, or in `groups`
-pub only-map : (κs : _) (a : _) (x y : _) (s t : _) → map.Post κs a x s → map.Post κs a y t → (x ≡ y) × (now (s .1 .1 .1 .1 .0) ≡ now (t .1 .1 .1 .1 .0))
-only-map κs a x y s t p q = only-outcome p q
+pub one-map : (κs : _) (a : _) (x y : _) (s t : _) → map.Post κs a x s → map.Post κs a y t → (x ≡ y) × (now (s .1 .1 .1 .1 .0) ≡ now (t .1 .1 .1 .1 .0))
+one-map κs a x y s t p q = only-outcome p q
 
-pub only-unmap : (κs : _) (a : _) (x y : _) (s t : _) → unmap.Post κs a x s → unmap.Post κs a y t
+pub one-unmap : (κs : _) (a : _) (x y : _) (s t : _) → unmap.Post κs a x s → unmap.Post κs a y t
     → (x ≡ y) × (now (s .1 .1 .1 .1 .0) ≡ now (t .1 .1 .1 .1 .0))
-only-unmap κs a x y s t p q = only-outcome p q
+one-unmap κs a x y s t p q = only-outcome p q

@@ -1,7 +1,6 @@
 -- Document 01, "GMP places": what stands in the places of a window, and where its data groups stand. Assumes nothing: these are definitions.
-use Prim.Native.Nat.{ℕ, suc, _+_, _-_, _*_, _/_, _%_, _≤_}
-use mathlib.Core.Bool.{Bool, cond}
-use mathlib.Core.Path.{_≡_}
+use Prim.Native.Nat.{ℕ, suc, _+_, _*_, _/_, _%_}
+use mathlib.Core.Bool.{cond}
 use mathlib.Core.List.{List}
 use lib.Dec.{ltb}
 use lib.ListN.{length}
@@ -10,7 +9,7 @@ use Rattle.bits.specs.Loops.{first}
 use Rattle.answer.specs.Outcomes.{Outcome, written}
 use Rattle.answer.specs.declared.Answer.{Answer}
 use Rattle.gmp.specs.Places.{isData, dataFrom}
-use Rattle.sizes.specs.Sizes.{places, groupBits, groupBytes, windowBytes}
+use Rattle.sizes.specs.Sizes.{groupBits, groupBytes, windowBytes}
 use Rattle.windows.specs.Answers.{mapAnswer, unmapAnswer}
 
 -- bit i of the window: it belongs to place f + i / groupBits, which holds the next data group, or stuff, "all zero"
@@ -21,11 +20,6 @@ windowBit c f g i =
 -- the place of data group q, counted from f: the first with which more than q data places have come
 unfoldable pub groupPlace : ℕ → ℕ → ℕ → ℕ → ℕ
 groupPlace c f n q = first (λ m. ltb q (dataFrom c f (suc m))) n
-
--- r is that place, and no more than there are
-pub record GroupAt (c f n q r : ℕ) : Type 0 where
-  pub is : r ≡ groupPlace c f n q
-  pub within : r ≤ places
 
 -- bit i of the groups: it belongs to group i / groupBits, which is the whole of its place. Stuff is not looked at; behind the last group bits are zero
 unfoldable pub groupsBit : ℕ → ℕ → ℕ → List ℕ → ℕ → ℕ
@@ -42,13 +36,3 @@ abbrev pub Unmapped : ℕ → ℕ → ℕ → List ℕ → List ℕ → Answer �
 Unmapped c f n w g r out =
     Outcome (unmapAnswer c f n (length w) (length g))
     (written (unmapAnswer c f n (length w) (length g)) (pack (groupBytes (dataFrom c f n)) (groupsBit c f n w)) g) r out
-
--- ---- how the code goes: two places, or two groups, at a time, since together they are whole bytes
-
--- bit i of a piece: a bit of s, or zero where the piece is not there
-abbrev pub piece : List ℕ → Bool → ℕ → ℕ
-piece s on i = cond on (bitAt s i) 0
-
--- bit i of two pieces, which stand at bits a and b of s
-unfoldable pub pairBit : List ℕ → Bool → ℕ → Bool → ℕ → ℕ → ℕ
-pairBit s on a on′ b i = cond (ltb i groupBits) (piece s on (a + i)) (piece s on′ (b + (i - groupBits)))

@@ -11,6 +11,7 @@ use lib.Bits.{bitXor, xor-zero-r, xor-zero-l, xor-lt}
 use lib.Dec.{eqb, lit<}
 use Rattle.bits.specs.Bits.{Bits}
 use Rattle.bits.proofs.Xor.{xor-assoc, xor-swap, times-xor}
+use Rattle.bits.proofs.Common.{bit-times}
 use Rattle.matrix.specs.Columns.{columnOf}
 use Rattle.matrix.specs.Sums.{sumTo, taken}
 
@@ -101,11 +102,6 @@ taken-same a b f g i j e p = rw (e, p)
 pub taken-none : (a : ℕ) (f : ℕ → ℕ) (i : ℕ) → f i ≡ 0 → taken a f i ≡ 0
 unfolding taken
 taken-none a f i e = rw (e, zero-mul)
-
-bit-times : (b c n : ℕ) → b < 2 → c < n → b * c < n
-bit-times zero c n h k = rw zero-mul (omega arith)
-bit-times (suc zero) c n h k = rw one-mul k
-bit-times (suc (suc b)) c n h k = absurd (omega arith)
 
 pub taken-lt : (a : ℕ) (f : ℕ → ℕ) (i n : ℕ) → Bits f → columnOf (a + i) < n → taken a f i < n
 unfolding taken

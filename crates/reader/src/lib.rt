@@ -12,7 +12,7 @@ ghost use Rattle.bits.specs.Bits.{tabulate, num, bitAt, pack, from};
 ghost use Rattle.bits.specs.Loops.{upto};
 ghost use Rattle.answer.specs.Outcomes.{Outcome};
 ghost use Rattle.crc.specs.Crc.{crcOf};
-ghost use Rattle.crc.specs.ByBytes.{entries};
+ghost use Rattle.crc.specs.Steps.{entries};
 ghost use Rattle.hamming.specs.Code.{checksOf};
 ghost use Rattle.matrix.specs.Sums.{positionTable};
 ghost use Rattle.lent.specs.Lent.{byteTable};
@@ -70,8 +70,8 @@ fn read_accepted(n: usize, m0: u64, capture: &[u8], info: &mut [u8], parity: &mu
 }
 
 // A place for the bytes of one super frame.
-fn blank() -> [u8; scrambler::FRAME_BYTES] {
-    [0u8; scrambler::FRAME_BYTES]
+fn blank() -> [u8; sizes::SUPER_BYTES] {
+    [0u8; sizes::SUPER_BYTES]
 }
 
 // Both passes, and the writing where nothing is wrong. The buffer is lent for one super frame at a time.

@@ -18,14 +18,10 @@ use Rattle.sizes.specs.Sizes.{words}
 use Rattle.line.specs.Frames.{infoOf, parityOf}
 use Rattle.line.specs.Words.{fecIn}
 use Rattle.line.proofs.CaptureLaws.{frames-in}
-use Rattle.reading.specs.Read.{repaired, isSeen, readEarlyRows, readLateRows, readRows, readAnswer, readLeaves}
+use Rattle.reading.specs.Read.{repaired, isSeen, readEarlyRows, readLateRows, readRows, readAnswer, given, readLeaves}
 use Rattle.reading.specs.Steps.{Accepted, wordsTo, framesTo, verdictOf, lateAnswer, lateLeaves}
 use Rattle.reading.specs.declared.WordTally.{WordTally}
 use Rattle.reading.specs.declared.BlockTally.{BlockTally}
-
--- what reading gives back where it is done
-abbrev given : ℕ → List ℕ → List ℕ × List ℕ
-given N cap = (infoOf N (fecIn (repaired cap)), parityOf N (fecIn (repaired cap)))
 
 early-rise : (N m0 cap info par : ℕ) → rising 0 (readEarlyRows N m0 cap info par) ≡ true
 unfolding rising readEarlyRows rowNumber

@@ -13,7 +13,7 @@ use Rattle.bits.proofs.Lists.{getD-tabulate, getD-past, Filled, filled-at, fill
 use Rattle.bits.proofs.Numbers.{num-ext, num-lt, num-split, num-front}
 use Rattle.bits.proofs.Packing.{bitOf-lt, num-bitOf, bitOf-packs, length-packs, packs-ext}
 use Rattle.crc.specs.Crc.{crcOf}
-use Rattle.crc.specs.ByBytes.{entries, crcBy}
+use Rattle.crc.specs.Steps.{entries, crcBy}
 use Rattle.crc.proofs.Bytewise.{bytes-crc}
 use Rattle.crc.proofs.Changes.{crc-ext}
 use Rattle.hamming.specs.declared.Repaired.{Repaired}

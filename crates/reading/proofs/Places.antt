@@ -169,9 +169,6 @@ parity-whole cap s f k e h =
 
 -- ---- a part that a callee filled
 
-pub part-long : (a k : ℕ) (s : List ℕ) → a + k ≤ length s → length (take k (drop a s)) ≡ k
-part-long a k s h = simp (length-take, length-drop) (omega arith)
-
 -- the callee's m elements are h, which is f from a on
 pub filled-part : {a : ℕ} {f : ℕ → ℕ} {d out : List ℕ} (k e : ℕ) {ys : List ℕ} (m : ℕ) (h : ℕ → ℕ) → Filled a f d out → e ≡ a + k → e ≤ length d → m ≡ k → ys ≡ tabulate m h
     → ((j : ℕ) → j < k → h j ≡ f (a + j)) → Filled e f d (putMid a k out ys)

@@ -82,7 +82,10 @@ readRows N m0 cap info par = readEarlyRows N m0 (length cap) (length info) (leng
 unfoldable pub readAnswer : ℕ → ℕ → List ℕ → List ℕ → List ℕ → Answer
 readAnswer N m0 cap info par = answerOf (readRows N m0 cap info par) (count (isSeen cap) (words N))
 
--- what the two buffers hold afterwards: information, and parity
+-- what is given back where it is done: information, and parity
+abbrev pub given : ℕ → List ℕ → List ℕ × List ℕ
+given N cap = (infoOf N (fecIn (repaired cap)), parityOf N (fecIn (repaired cap)))
+
+-- what the two buffers hold afterwards
 unfoldable pub readLeaves : ℕ → ℕ → List ℕ → List ℕ → List ℕ → List ℕ × List ℕ
-readLeaves N m0 cap info par =
-    written (readAnswer N m0 cap info par) (infoOf N (fecIn (repaired cap)), parityOf N (fecIn (repaired cap))) (info, par)
+readLeaves N m0 cap info par = written (readAnswer N m0 cap info par) (given N cap) (info, par)

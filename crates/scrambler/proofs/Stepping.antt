@@ -6,7 +6,7 @@ use native.Mathlib.Omega.{arith}
 use Rattle.bits.specs.Bits.{num, digit, byteOf}
 use Rattle.bits.proofs.Numbers.{num-next, num-front, digit-num}
 use Rattle.scrambler.specs.Scrambler.{push, hist, o}
-use Rattle.scrambler.specs.Register.{register, Steps}
+use Rattle.scrambler.specs.Steps.{register, Steps}
 use Rattle.scrambler.proofs.Rule.{o-lt, o-step}
 
 -- where it starts: all ones

@@ -13,7 +13,7 @@ use Rattle.bits.proofs.Numbers.{num-ext}
 use Rattle.bits.proofs.Packing.{length-packs}
 use Rattle.bits.proofs.Xor.{num-xor}
 use Rattle.scrambler.specs.Scrambler.{o}
-use Rattle.scrambler.specs.Register.{Rule, Opened, Begun}
+use Rattle.scrambler.specs.Steps.{Rule, Opened, Begun}
 use Rattle.scrambler.proofs.Rule.{o-lt, o-step}
 
 -- terms that come twice; and a sum of sums, each without its carry

@@ -4,10 +4,6 @@ use Prim.Native.Nat.{ℕ, zero, suc, _+_, _%_}
 use mathlib.Core.List.{List, _∷_}
 use lib.ListN.{getD, replicate}
 
--- the bytes of a super frame: 1,306,144 bits
-abbrev pub frameBytes : ℕ
-frameBytes = 163268
-
 -- the next bit in front of those before it, the newest first: h has o(n-1), o(n-2), ..
 unfoldable pub push : List ℕ → List ℕ
 push h = ((getD h 0 0 + getD h 2 0 + getD h 11 0 + getD h 15 0) % 2) ∷ h
@@ -17,7 +13,8 @@ unfoldable pub hist : ℕ → List ℕ
 hist zero = replicate 16 1
 hist (suc n) = push (hist n)
 
--- the bit that is added to bit n of a super frame
+-- the bit that is added to bit n of a super frame. That this is the document's sequence, and the only one: `o-first`, `o-step` and `only-o` of
+-- proofs/Rule.antt
 unfoldable pub o : ℕ → ℕ
 o n = getD (hist n) 15 0
 

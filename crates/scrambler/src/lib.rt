@@ -3,11 +3,9 @@ ghost use mathlib.Core.Path.{_≡_};
 ghost use Prim.Native.Nat.{_*_, _≤_, _<_, _^_};
 ghost use lib.ListN.{length};
 ghost use Rattle.bits.specs.Bits.{pack};
-ghost use Rattle.scrambler.specs.Scrambler.{o, frameBytes};
-ghost use Rattle.scrambler.specs.Register.{Steps, Rule, Opened, Begun};
-
-// The bytes of a super frame.
-pub const FRAME_BYTES: usize = 163268;
+ghost use Rattle.scrambler.specs.Scrambler.{o};
+ghost use Rattle.sizes.specs.Sizes.{superBytes};
+ghost use Rattle.scrambler.specs.Steps.{Steps, Rule, Opened, Begun};
 
 // After so many bits the sequence repeats.
 pub const PERIOD: usize = 65535;
@@ -71,10 +69,10 @@ pub fn fill(out: &mut [u8])
 }
 
 // The sequence of a whole super frame. Who has a buffer lends it to `fill` and spares a copy of the array.
-pub fn sequence() -> [u8; FRAME_BYTES]
-    ensures { λ r. ⌜ r ≡ pack frameBytes o ⌝ }
+pub fn sequence() -> [u8; sizes::SUPER_BYTES]
+    ensures { λ r. ⌜ r ≡ pack superBytes o ⌝ }
 {
-    let mut out = [0u8; FRAME_BYTES];
+    let mut out = [0u8; sizes::SUPER_BYTES];
     fill(&mut out);
     out
 }

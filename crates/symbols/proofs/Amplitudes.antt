@@ -32,10 +32,6 @@ pair-small r v e = rw e (choice-lt (ltZ v (negsuc 1)) (ltZ v (pos 0)) (ltZ v (po
 
 -- ---- a pair and its level
 
--- a bit that is not 0 is 1
-pub odd : (x : ℕ) → (x % 2 ≡ 0 → ⊥) → x % 2 ≡ 1
-odd x h = omega arith
-
 pub pair-level : (a b : ℕ) → a < 2 → b < 2 → pairOf (levelOf a b) ≡ 2 * a + b
 unfolding pairOf levelOf
 pair-level zero zero h k = refl

@@ -1,4 +1,5 @@
 -- The laws of `specs/`.
+pub mod Allowed
 pub mod Judging
 pub mod Spares
 pub mod Exactly

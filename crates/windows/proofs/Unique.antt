@@ -5,8 +5,8 @@ use Rattle.bits.proofs.Common.{only}
 use Rattle.windows.proofs.map_answer.Reads as map-answer
 use Rattle.windows.proofs.unmap_answer.Reads as unmap-answer
 
-pub only-map-answer : (κs : _) (a : _) (x y : _) (s t : _) → map-answer.Post κs a x s → map-answer.Post κs a y t → x ≡ y
-only-map-answer κs a x y s t p q = only p q
+pub one-map-answer : (κs : _) (a : _) (x y : _) (s t : _) → map-answer.Post κs a x s → map-answer.Post κs a y t → x ≡ y
+one-map-answer κs a x y s t p q = only p q
 
-pub only-unmap-answer : (κs : _) (a : _) (x y : _) (s t : _) → unmap-answer.Post κs a x s → unmap-answer.Post κs a y t → x ≡ y
-only-unmap-answer κs a x y s t p q = only p q
+pub one-unmap-answer : (κs : _) (a : _) (x y : _) (s t : _) → unmap-answer.Post κs a x s → unmap-answer.Post κs a y t → x ≡ y
+one-unmap-answer κs a x y s t p q = only p q

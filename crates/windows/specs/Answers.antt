@@ -1,25 +1,19 @@
 -- What mapping and unmapping answer, for any input: document 01, "GMP places" and "Numbers handed back". Assumes nothing: these are definitions.
 use Prim.Native.Nat.{ℕ}
-use mathlib.Core.Bool.{Bool, not}
 use mathlib.Core.List.{List, [], _∷_}
-use lib.Dec.{eqb}
 use lib.ListN.{length}
 use Rattle.answer.specs.Numbers.{outsideSet, wrongLength, spareBit}
-use Rattle.answer.specs.Rows.{Row, answerOf, whole, buffers}
+use Rattle.answer.specs.Rows.{Row, whole, buffers, wrong, answerOf}
 use Rattle.answer.specs.declared.Answer.{Answer}
 use Rattle.gmp.specs.Places.{dataFrom}
 use Rattle.sizes.specs.Sizes.{groupBytes, windowBytes}
 use Rattle.windows.specs.Windows.{outsideWindow, spareSet}
 
--- a buffer's length is not the stated one
-abbrev pub wrong : ℕ → ℕ → Bool
-wrong l stated = not (eqb l stated)
-
 -- the table of mapping the groups g into a window of l bytes: the buffers are the groups and the window
 abbrev pub mapRows : ℕ → ℕ → ℕ → List ℕ → ℕ → List Row
 mapRows c f n g l =
     whole outsideSet (outsideWindow c f n)
-    ∷ buffers wrongLength (wrong (length g) (groupBytes (dataFrom c f n)) ∷ wrong l (windowBytes n) ∷ [])
+    ∷ buffers wrongLength (wrong (groupBytes (dataFrom c f n)) (length g) ∷ wrong (windowBytes n) l ∷ [])
     ∷ buffers spareBit (spareSet (dataFrom c f n) g ∷ [])
     ∷ []
 
@@ -31,7 +25,7 @@ mapAnswer c f n g l = answerOf (mapRows c f n g l) (dataFrom c f n)
 abbrev pub unmapRows : ℕ → ℕ → ℕ → ℕ → ℕ → List Row
 unmapRows c f n l k =
     whole outsideSet (outsideWindow c f n)
-    ∷ buffers wrongLength (wrong l (windowBytes n) ∷ wrong k (groupBytes (dataFrom c f n)) ∷ [])
+    ∷ buffers wrongLength (wrong (windowBytes n) l ∷ wrong (groupBytes (dataFrom c f n)) k ∷ [])
     ∷ []
 
 -- the count is d

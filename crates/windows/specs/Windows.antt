@@ -1,15 +1,16 @@
 -- Document 01, "GMP places": what a window of n places from place f on is, and the bytes that it and its data groups take. Assumes nothing: these are definitions.
-use Prim.Native.Nat.{ℕ, _+_, _-_, _*_, _/_, _%_, _≤_}
+use Prim.Native.Nat.{ℕ, _+_, _-_, _*_, _%_, _≤_}
 use mathlib.Core.Bool.{Bool, not, _&&_, _||_}
 use mathlib.Core.Path.{_≡_}
 use mathlib.Core.List.{List}
 use lib.Dec.{ltb, eqb}
 use Rattle.bits.specs.Bits.{num, bitAt}
-use Rattle.sizes.specs.Sizes.{places}
+use Rattle.gmp.specs.Places.{outsideStretch}
+use Rattle.sizes.specs.Sizes.{places, groupBits}
 
 -- "an odd first place f and an even number n ≥ 2 of places, ending at or before 10,220", and a count: one of these is not so
 abbrev pub outsideWindow : ℕ → ℕ → ℕ → Bool
-outsideWindow c f n = ltb places c || (eqb (f % 2) 0 || (eqb (n % 2) 1 || (ltb n 2 || ltb places (f + n - 1))))
+outsideWindow c f n = eqb (f % 2) 0 || (eqb (n % 2) 1 || (ltb n 2 || outsideStretch c f n))
 
 -- the same as facts: all of it is so
 pub record Window (c f n : ℕ) : Type 0 where

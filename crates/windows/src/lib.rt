@@ -1,13 +1,12 @@
 // What a payload window is, and what mapping and unmapping answer: document 01, "GMP places" and "Numbers handed back".
 ghost use mathlib.Core.Path.{_≡_};
 ghost use Prim.Native.Nat.{_≤_};
-ghost use Rattle.sizes.specs.Sizes.{places};
+ghost use Rattle.sizes.specs.Sizes.{places, groupBytes, windowBytes};
 ghost use Rattle.windows.specs.Windows.{outsideWindow, spareSet};
 ghost use Rattle.windows.specs.Answers.{mapAnswer, unmapAnswer};
 use answer::Answer;
 use sizes::GROUP_BITS;
 use sizes::PAIR_BYTES;
-use sizes::PLACES;
 
 // What mapping answers: its buffers are the groups and the window.
 pub fn map_answer(c: u64, f: u64, n: u64, groups: &[u8], window: usize) -> Answer
@@ -17,16 +16,22 @@ pub fn map_answer(c: u64, f: u64, n: u64, groups: &[u8], window: usize) -> Answe
         return answer::refuse(answer::OUTSIDE_SET, 0);
     }
     let d = gmp::data_in(c, f, n);
-    if groups.len() != (PAIR_BYTES * (d as usize) + 1) / 2 {
-        return answer::refuse(answer::WRONG_LENGTH, answer::buffer_place(1));
-    }
-    if window != PAIR_BYTES * (n as usize) / 2 {
-        return answer::refuse(answer::WRONG_LENGTH, answer::buffer_place(2));
-    }
-    if spare_set(d, groups) {
-        return answer::refuse(answer::SPARE_BIT, answer::buffer_place(1));
-    }
-    answer::granted(d)
+    answer::refuse_length(
+        1,
+        groups.len() as u64,
+        group_bytes(d),
+        answer::refuse_length(
+            2,
+            window as u64,
+            window_bytes(n),
+            answer::refuse_if(
+                spare_set(d, groups),
+                answer::SPARE_BIT,
+                answer::buffer_place(1),
+                answer::granted(d),
+            ),
+        ),
+    )
 }
 
 // What unmapping answers: its buffers are the window and the groups.
@@ -37,22 +42,34 @@ pub fn unmap_answer(c: u64, f: u64, n: u64, window: usize, groups: usize) -> Ans
         return answer::refuse(answer::OUTSIDE_SET, 0);
     }
     let d = gmp::data_in(c, f, n);
-    if window != PAIR_BYTES * (n as usize) / 2 {
-        return answer::refuse(answer::WRONG_LENGTH, answer::buffer_place(1));
-    }
-    if groups != (PAIR_BYTES * (d as usize) + 1) / 2 {
-        return answer::refuse(answer::WRONG_LENGTH, answer::buffer_place(2));
-    }
-    answer::granted(d)
+    answer::refuse_length(
+        1,
+        window as u64,
+        window_bytes(n),
+        answer::refuse_length(2, groups as u64, group_bytes(d), answer::granted(d)),
+    )
+}
+
+// The bytes of d data groups.
+fn group_bytes(d: u64) -> u64
+    requires { ⌜ d ≤ places ⌝ }
+    ensures { λ r. ⌜ r ≡ groupBytes d ⌝ }
+{
+    ((PAIR_BYTES as u64) * d + 1) / 2
+}
+
+// The bytes of n places.
+fn window_bytes(n: u64) -> u64
+    requires { ⌜ n ≤ places ⌝ }
+    ensures { λ r. ⌜ r ≡ windowBytes n ⌝ }
+{
+    (PAIR_BYTES as u64) * n / 2
 }
 
 // Whether c, f and n are no count and window.
 fn outside_window(c: u64, f: u64, n: u64) -> bool
     ensures { λ r. ⌜ r ≡ outsideWindow c f n ⌝ }
 {
-    if PLACES < c {
-        return true;
-    }
     if f % 2 == 0 {
         return true;
     }
@@ -62,11 +79,7 @@ fn outside_window(c: u64, f: u64, n: u64) -> bool
     if n < 2 {
         return true;
     }
-    // f + n could wrap, so n is taken to the other side.
-    if PLACES < n {
-        return true;
-    }
-    PLACES - n + 1 < f
+    gmp::outside_stretch(c, f, n)
 }
 
 // Whether there is an odd number of groups and one of the last four bits is set.

@@ -10,6 +10,9 @@ returns c = search answers
 value-requires : tie.Need-value-requires
 value-requires c κs = search needs
 
+cast-if2 : tie.Need-cast-if2
+cast-if2 c = search needs
+
 returns-2 : tie.Need-returns-2
 returns-2 c = search answers
 
@@ -17,4 +20,4 @@ returns-3 : tie.Need-returns-3
 returns-3 c = search answers
 
 pub number-of-spec : {M : Type 1} → statement M
-number-of-spec = tie.close (tie.spec returns value-requires returns-2 returns-3)
+number-of-spec = tie.close (tie.spec returns value-requires cast-if2 returns-2 returns-3)

@@ -1,13 +1,14 @@
 -- `arguments::value` meets its contract: a byte a turn. Assumes nothing.
-use Prim.Native.Nat.{_-_, _≤_}
+use Prim.Native.Nat.{suc, _-_, _≤_}
 use lib.ListN.{length}
 use Rattle.bits.proofs.LoopLaws.{Folded, loops}
-use Rattle.arguments.specs.Numbers.{stepAt}
+use Rattle.decimal.specs.Steps.{nextAt}
+use Rattle.arguments.specs.Numbers.{most}
 use Rattle.arguments.proofs.value.Statement.{statement}
 use Rattle.arguments.proofs.value.Tie as tie
 
 abbrev Inv-loop : tie.InvT-loop
-Inv-loop s v₀ k₀ k-end v k = Folded (stepAt s) 0 k v × (k ≤ length s)
+Inv-loop s v₀ k₀ k-end v k = Folded (nextAt most (suc most) s) 0 k v × (k ≤ length s)
 
 abbrev μ-loop : tie.MeasureT-loop
 μ-loop s v₀ k₀ k-end v k = length s - k
@@ -15,11 +16,11 @@ abbrev μ-loop : tie.MeasureT-loop
 loop-holds : tie.Need-loop-holds Inv-loop μ-loop
 loop-holds c = search loops
 
-shared-slice-read-step : tie.Need-shared-slice-read-step Inv-loop μ-loop
-shared-slice-read-step c = search loops
+shared-slice-read-next-value : tie.Need-shared-slice-read-next-value Inv-loop μ-loop
+shared-slice-read-next-value c = search loops
 
-step-requires : tie.Need-step-requires Inv-loop μ-loop
-step-requires c κs = search loops
+next-value-requires : tie.Need-next-value-requires Inv-loop μ-loop
+next-value-requires c κs = search loops
 
 add-k : tie.Need-add-k Inv-loop μ-loop
 add-k c = search loops
@@ -40,8 +41,8 @@ value-spec =
     Inv-loop
     μ-loop
     loop-holds
-    shared-slice-read-step
-    step-requires
+    shared-slice-read-next-value
+    next-value-requires
     add-k
     loop-less
     loop-again

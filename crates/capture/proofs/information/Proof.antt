@@ -11,7 +11,7 @@ shown : (c : tie.Then1) → Part (c .before .before .before .before .args .n) (c
 shown c =
     let a = c .before .before .before .before .args in
     let r = c .before .before .information-answer in
-    granted-part (a .n) (a .t) (now (a .info)) (r .result) (r .ensures) (c .if1 .taken)
+    granted-part (a .n) (a .t) (now (a .info)) (r .ensures) (c .if1 .taken)
 
 information-answer-requires : tie.Need-information-answer-requires
 information-answer-requires c κs = search needs
@@ -32,7 +32,7 @@ part-result-end : tie.Need-part-result-end
 part-result-end c = omega (arith, shown c)
 
 returns : tie.Need-returns
-returns c = let a = c .before .before .before .before .before .args in part-given (a .n) (a .t) (now (a .info)) (c .before .before .before .information-answer .result) (c .before .before .before .information-answer .ensures) (c .before .if1 .taken)
+returns c = let a = c .before .before .before .before .before .args in part-given (a .n) (a .t) (now (a .info)) (c .before .before .before .information-answer .ensures) (c .before .if1 .taken)
 
 sub-result-2 : tie.Need-sub-result-2
 sub-result-2 c = search needs
@@ -44,7 +44,7 @@ part-result-end-2 : tie.Need-part-result-end-2
 part-result-end-2 c = search needs
 
 returns-2 : tie.Need-returns-2
-returns-2 c = let a = c .before .before .before .before .before .args in part-empty (a .n) (a .t) (now (a .info)) (c .before .before .before .information-answer .result) (c .before .before .before .information-answer .ensures) (c .before .if1 .left)
+returns-2 c = let a = c .before .before .before .before .before .args in part-empty (a .n) (a .t) (now (a .info)) (c .before .before .before .information-answer .ensures) (c .before .if1 .left)
 
 pub information-spec : {M : Type 1} → statement M
 information-spec =

@@ -1,76 +1,61 @@
--- `capture::information_answer` meets its contract: each return by the tests that led there. Assumes nothing.
-use Prim.Native.Nat.{_<_}
-use mathlib.Core.Bool.{true}
+-- `capture::information_answer` meets its contract: the tests in turn are the table. Assumes nothing.
+use Prim.Native.Nat.{_*_, _<_}
+use mathlib.Core.Bool.{false, not, _&&_}
 use mathlib.Core.Path.{_≡_, sym, ap, _∙_}
 use native.Mathlib.Omega.{arith}
-use borrow.Author.Tests.{not-true, not-false}
-use denote.Ref.{now}
-use Rattle.answer.specs.Numbers.{wrongLength}
-use Rattle.answer.specs.Rows.{refused}
+use borrow.Author.Tests.{not-false}
+use lib.Dec.{ltb}
+use Rattle.bits.proofs.Common.{and-left}
+use Rattle.answer.specs.Steps.{faultsThen, rowThen, inTurn}
+use Rattle.answer.proofs.Turns.{in-turn}
+use Rattle.sizes.specs.Sizes.{fecBlocks}
 use Rattle.line.specs.Captures.{superAllowed}
 use Rattle.line.proofs.CaptureLaws.{super-frames}
-use Rattle.capture.proofs.Parting.{no-frames, no-block, no-length, all-right}
+use Rattle.capture.specs.Part.{partRows, partAnswer}
 use borrow.Author.Needs.{needs}
 use Rattle.capture.proofs.information_answer.Statement.{statement}
 use Rattle.capture.proofs.information_answer.Tie as tie
 
-allowed : (c : tie.Else1) → superAllowed (c .before .before .before .args .n) ≡ true
-allowed c = sym (c .before .super-allowed .ensures) ∙ not-false (c .before .super-allowed .result) (c .if1 .left)
+inside : (c : tie.Else1) → let a = c .before .before .before .args in not (superAllowed (a .n) && ltb (a .t) (fecBlocks * a .n)) ≡ false
+inside c = ap not (sym (c .before .one-of .ensures)) ∙ c .if1 .left
 
 few : (c : tie.Else1) → c .before .before .before .args .n < 9
-few c = super-frames (c .before .before .before .args .n) (allowed c) .few
+few c =
+    let a = c .before .before .before .args in
+    let outside = superAllowed (a .n) && ltb (a .t) (fecBlocks * a .n) in
+    super-frames (a .n) (and-left (superAllowed (a .n)) (ltb (a .t) (fecBlocks * a .n)) (not-false outside (inside c))) .few
 
-super-allowed-requires : tie.Need-super-allowed-requires
-super-allowed-requires c κs = search needs
+one-of-requires : tie.Need-one-of-requires
+one-of-requires c κs = search needs
 
 refuse-requires : tie.Need-refuse-requires
 refuse-requires c κs = search needs
 
 returns : tie.Need-returns
-returns c = let a = c .before .before .before .before .args in c .refuse .ensures ∙ no-frames (a .n) (a .t) (now (a .info)) (sym (c .before .before .super-allowed .ensures) ∙ not-true (c .before .before .super-allowed .result) (c .before .if1 .taken))
+unfolding partAnswer partRows inTurn rowThen
+returns c = rw (in-turn, ← (c .before .before .one-of .ensures), c .before .if1 .taken) (c .refuse .ensures)
 
-mul-if2 : tie.Need-mul-if2
-mul-if2 c = omega (arith, few c)
-
-refuse-requires-2 : tie.Need-refuse-requires-2
-refuse-requires-2 c κs = search needs
-
-returns-2 : tie.Need-returns-2
-returns-2 c = let a = c .before .before .before .before .before .args in c .refuse2 .ensures ∙ no-block (a .n) (a .t) (now (a .info)) (allowed (c .before .before)) (c .before .if2 .taken)
-
-mul-if3 : tie.Need-mul-if3
-mul-if3 c = omega (arith, few (c .before))
-
-buffer-place-requires : tie.Need-buffer-place-requires
-buffer-place-requires c κs = search needs
-
-refuse-requires-3 : tie.Need-refuse-requires-3
-refuse-requires-3 c κs = search needs
-
-returns-3 : tie.Need-returns-3
-returns-3 c = let a = c .before .before .before .before .before .before .before .args in
-    c .refuse3 .ensures ∙ ap (refused wrongLength) (c .before .buffer-place .ensures)
-    ∙ no-length (a .n) (a .t) (now (a .info)) (allowed (c .before .before .before .before)) (c .before .before .before .if2 .left) (c .before .before .if3 .taken)
+mul-stated : tie.Need-mul-stated
+mul-stated c = omega (arith, few c)
 
 granted-requires : tie.Need-granted-requires
 granted-requires c κs = search needs
 
-returns-4 : tie.Need-returns-4
-returns-4 c = let a = c .before .before .before .before .before .before .args in c .granted .ensures ∙ all-right (a .n) (a .t) (now (a .info)) (allowed (c .before .before .before)) (c .before .before .if2 .left) (c .before .if3 .left)
+refuse-length-requires : tie.Need-refuse-length-requires
+refuse-length-requires c κs = search needs
+
+returns-2 : tie.Need-returns-2
+unfolding partAnswer partRows inTurn rowThen faultsThen
+returns-2 c = rw (in-turn, inside (c .before .before), c .refuse-length .ensures, c .before .granted .ensures)
 
 pub information-answer-spec : {M : Type 1} → statement M
 information-answer-spec =
     tie.close
     (tie.spec
-    super-allowed-requires
+    one-of-requires
     refuse-requires
     returns
-    mul-if2
-    refuse-requires-2
-    returns-2
-    mul-if3
-    buffer-place-requires
-    refuse-requires-3
-    returns-3
+    mul-stated
     granted-requires
-    returns-4)
+    refuse-length-requires
+    returns-2)

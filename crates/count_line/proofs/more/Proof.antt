@@ -2,7 +2,7 @@
 use Prim.Native.Nat.{_-_, _≤_}
 use lib.ListN.{length}
 use Rattle.bits.proofs.LoopLaws.{Folded, loops}
-use Rattle.count_line.specs.Reading.{stepAt}
+use Rattle.count_line.specs.Steps.{stepAt}
 use Rattle.count_line.proofs.more.Statement.{statement}
 use Rattle.count_line.proofs.more.Tie as tie
 

@@ -1,28 +1,23 @@
--- `count_line::so_far` meets its contract: each return by the tests that led there. Assumes nothing.
-use Rattle.count_line.proofs.Stepping.{verdicts}
+-- `count_line::so_far` meets its contract: its tests in turn. Assumes nothing.
 use borrow.Author.Needs.{needs}
+use Rattle.answer.proofs.Turns.{turns}
+use Rattle.count_line.specs.Steps.{soFar}
 use Rattle.count_line.proofs.so_far.Statement.{statement}
 use Rattle.count_line.proofs.so_far.Tie as tie
-
-refuse-requires : tie.Need-refuse-requires
-refuse-requires c κs = search needs
-
-returns : tie.Need-returns
-returns c = search verdicts
-
-refuse-requires-2 : tie.Need-refuse-requires-2
-refuse-requires-2 c κs = search needs
-
-returns-2 : tie.Need-returns-2
-returns-2 c = search verdicts
 
 granted-requires : tie.Need-granted-requires
 granted-requires c κs = search needs
 
-returns-3 : tie.Need-returns-3
-returns-3 c = search verdicts
+refuse-if-requires : tie.Need-refuse-if-requires
+refuse-if-requires c κs = search needs
+
+refuse-if-requires-2 : tie.Need-refuse-if-requires-2
+refuse-if-requires-2 c κs = search needs
+
+returns : tie.Need-returns
+unfolding soFar
+returns c = search turns
 
 pub so-far-spec : {M : Type 1} → statement M
 so-far-spec =
-    tie.close
-    (tie.spec refuse-requires returns refuse-requires-2 returns-2 granted-requires returns-3)
+    tie.close (tie.spec granted-requires refuse-if-requires refuse-if-requires-2 returns)

@@ -3,6 +3,8 @@ use Prim.Native.Nat.{ℕ, _<_}
 use native.Mathlib.Omega.{arith}
 use borrow.Fn.Kinds.{In}
 use borrow.Fn.PlainCycle.{Measures, is, falls, and}
+use Rattle.crc.specs.Crc.{width, poly}
+use Rattle.crc.proofs.Changes.{poly-lt}
 use Rattle.crc.proofs.Powers.{power-low, power-even, power-odd}
 use Rattle.crc.proofs.power.Reads as power
 use Rattle.crc.proofs.power.Kinds as power-kinds
@@ -32,7 +34,7 @@ power-shl-result : (t : ℕ) → power-lts.Need-shl-result (calls t) (power-at t
 power-shl-result t c = c .if1 .taken
 
 power-returns : (t : ℕ) → power-lts.Need-returns (calls t) (power-at t) power.Post
-power-returns t c = power-low (c .before .args .m) (c .if1 .taken)
+power-returns t c = power-low width poly (c .before .args .m) (c .if1 .taken)
 
 power-power-requires : (t : ℕ) → power-lts.Need-power-requires (calls t) (power-at t) power.Post
 power-power-requires t c κs = (omega arith, tt)
@@ -46,15 +48,22 @@ power-times-x-requires t c κs = tt
 power-returns-2 : (t : ℕ) → power-lts.Need-returns-2 (calls t) (power-at t) power.Post
 power-returns-2 t c =
     let h = c .before .before in
-    power-even (h .before .before .args .m) (h .power .result) (c .before .multiply .result) (h .power .ensures) (c .before .multiply .ensures) (c .if2 .taken)
+    let s = c .before .multiply in
+    power-even width poly (omega arith) poly-lt (h .before .before .args .m) (h .power .result) (s .result) (h .power .ensures) (s .ensures)
+    (c .if2 .taken)
 
 power-returns-3 : (t : ℕ) → power-lts.Need-returns-3 (calls t) (power-at t) power.Post
 power-returns-3 t c =
     let k = c .before .before in
     let h = k .before in
-    power-odd (h .before .before .args .m) (h .power .result) (k .multiply .result) (c .times-x .result) (h .power .ensures) (k .multiply .ensures) (c .times-x .ensures) (c .before .if2 .left)
+    let x = c .times-x in
+    let s = k .multiply in
+    power-odd width poly (omega arith) poly-lt (h .before .before .args .m) (h .power .result) (s .result) (x .result) (h .power .ensures)
+    (s .ensures) (x .ensures) (c .before .if2 .left)
 
 pub +power-spec : {M : Type 1} → statement M
 +power-spec =
     close μ-power
-    (λ t. power-lts.spec (calls t) (power-at t) power.Post (power-cast-result t) (power-shl-result t) (power-returns t) (power-power-requires t) (power-multiply-requires t) (power-times-x-requires t) (power-returns-2 t) (power-returns-3 t))
+    (λ t.
+    power-lts.spec (calls t) (power-at t) power.Post (power-cast-result t) (power-shl-result t) (power-returns t) (power-power-requires t)
+    (power-multiply-requires t) (power-times-x-requires t) (power-returns-2 t) (power-returns-3 t))

@@ -4,8 +4,9 @@ use mathlib.Core.Path.{_≡_, refl}
 use native.Mathlib.Omega.{arith}
 use borrow.Author.Needs.{needs}
 use Rattle.bits.specs.Bits.{digit}
-use Rattle.crc.specs.Crc.{remFrom, remOf}
-use Rattle.crc.proofs.Linear.{rem-more}
+use Rattle.crc.specs.Remainder.{remFrom}
+use Rattle.crc.specs.Crc.{remOf}
+use Rattle.crc.proofs.Changes.{rem-more}
 use Rattle.crc.proofs.entry.Statement.{statement}
 use Rattle.crc.proofs.entry.Tie as tie
 
@@ -44,16 +45,4 @@ returns : tie.Need-returns Inv-loop μ-loop
 returns c = let e : c .before .loop .j ≡ 8 = omega arith in rw e at (c .before .loop .inv .1)
 
 pub entry-spec : {M : Type 1} → statement M
-entry-spec =
-    tie.close
-    (tie.spec
-    Inv-loop
-    μ-loop
-    loop-holds
-    sub-take-bit
-    shr-take-bit
-    take-bit-requires
-    add-j
-    loop-less
-    loop-again
-    returns)
+entry-spec = tie.close (tie.spec Inv-loop μ-loop loop-holds sub-take-bit shr-take-bit take-bit-requires add-j loop-less loop-again returns)

@@ -4,13 +4,14 @@ use native.Mathlib.Omega.{arith}
 use Rattle.bits.specs.Bits.{digit}
 use Rattle.bits.proofs.LoopLaws.{Folded, folded-more, loops}
 use Rattle.bits.proofs.Numbers.{digit-lt}
-use Rattle.crc.specs.Powers.{productStep}
-use Rattle.crc.proofs.Powers.{digit-times-lt}
+use Rattle.bits.proofs.Common.{bit-times}
+use Rattle.crc.specs.Crc.{width, poly}
+use Rattle.crc.specs.Steps.{productStep}
 use Rattle.crc.proofs.multiply.Statement.{statement}
 use Rattle.crc.proofs.multiply.Tie as tie
 
 abbrev Inv-loop : tie.InvT-loop
-Inv-loop a b r₀ j₀ r j = (j ≤ 32) × Folded (productStep a b) 0 j r
+Inv-loop a b r₀ j₀ r j = (j ≤ 32) × Folded (productStep width poly a b) 0 j r
 
 abbrev μ-loop : tie.MeasureT-loop
 μ-loop a b r₀ j₀ r j = 32 - j
@@ -33,7 +34,7 @@ mul-r c =
     let s = c .before .before in
     let b = s .before .args .b in
     let j = s .loop .j in
-    record { fits = digit-times-lt (digit 32 b j) (s .before .args .a) (2 ^ 32) (digit-lt 32 b j) (omega arith) }
+    record { fits = bit-times (digit 32 b j) (s .before .args .a) (2 ^ 32) (digit-lt 32 b j) (omega arith) }
 
 add-j : tie.Need-add-j Inv-loop μ-loop
 add-j c = search loops
@@ -49,17 +50,4 @@ returns : tie.Need-returns Inv-loop μ-loop
 returns c = search loops
 
 pub multiply-spec : {M : Type 1} → statement M
-multiply-spec =
-    tie.close
-    (tie.spec
-    Inv-loop
-    μ-loop
-    loop-holds
-    times-x-requires
-    sub-r
-    shr-r
-    mul-r
-    add-j
-    loop-less
-    loop-again
-    returns)
+multiply-spec = tie.close (tie.spec Inv-loop μ-loop loop-holds times-x-requires sub-r shr-r mul-r add-j loop-less loop-again returns)

@@ -3,7 +3,7 @@ use Prim.Native.Nat.{ℕ, _-_, _*_}
 use mathlib.Core.Path.{sym, ap}
 use native.Mathlib.Omega.{arith}
 use lib.Pow.{pow-mono, pow-pos}
-use Rattle.crc.specs.ByBytes.{opening}
+use Rattle.crc.specs.Steps.{opening}
 use Rattle.crc.proofs.Bytewise.{opening-many, power}
 use borrow.Author.Needs.{needs}
 use Rattle.crc.proofs.opening_for.Statement.{statement}
@@ -39,6 +39,4 @@ unfolding opening
 returns-2 c = sym (opening-many (8 * c .before .args .n) (omega arith))
 
 pub opening-for-spec : {M : Type 1} → statement M
-opening-for-spec =
-    tie.close
-    (tie.spec mul-result sub-result shl-result sub-result-2 cast-result returns returns-2)
+opening-for-spec = tie.close (tie.spec mul-result sub-result shl-result sub-result-2 cast-result returns returns-2)

@@ -2,12 +2,13 @@
 use Prim.Native.Nat.{_-_, _≤_}
 use lib.ListN.{length}
 use Rattle.bits.proofs.LoopLaws.{Folded, loops}
-use Rattle.crc.specs.ByBytes.{byteStep}
+use Rattle.crc.specs.Crc.{width}
+use Rattle.crc.specs.Steps.{byteStep}
 use Rattle.crc.proofs.remainder.Statement.{statement}
 use Rattle.crc.proofs.remainder.Tie as tie
 
 abbrev Inv-loop : tie.InvT-loop
-Inv-loop t start s r₀ k₀ k-end r k = (k ≤ length s) × Folded (byteStep t s) start k r
+Inv-loop t start s r₀ k₀ k-end r k = (k ≤ length s) × Folded (byteStep width t s) start k r
 
 abbrev μ-loop : tie.MeasureT-loop
 μ-loop t start s r₀ k₀ k-end r k = length s - k
@@ -31,6 +32,4 @@ returns : tie.Need-returns Inv-loop μ-loop
 returns c = search loops
 
 pub remainder-spec : {M : Type 1} → statement M
-remainder-spec =
-    tie.close
-    (tie.spec Inv-loop μ-loop loop-holds take-byte-requires add-k loop-less loop-again returns)
+remainder-spec = tie.close (tie.spec Inv-loop μ-loop loop-holds take-byte-requires add-k loop-less loop-again returns)

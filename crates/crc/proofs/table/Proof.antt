@@ -2,12 +2,13 @@
 use Prim.Native.Nat.{_-_}
 use Rattle.bits.proofs.Lists.{Filled}
 use Rattle.bits.proofs.LoopLaws.{loops}
-use Rattle.crc.specs.ByBytes.{entryOf}
+use Rattle.crc.specs.Crc.{width, poly}
+use Rattle.crc.specs.Steps.{entryOf}
 use Rattle.crc.proofs.table.Statement.{statement}
 use Rattle.crc.proofs.table.Tie as tie
 
 abbrev Inv-loop : tie.InvT-loop
-Inv-loop t₀ b₀ t b = Filled b entryOf t₀ t
+Inv-loop t₀ b₀ t b = Filled b (entryOf width poly) t₀ t
 
 abbrev μ-loop : tie.MeasureT-loop
 μ-loop t₀ b₀ t b = 256 - b
@@ -40,17 +41,4 @@ returns : tie.Need-returns Inv-loop μ-loop
 returns c = search loops
 
 pub table-spec : {M : Type 1} → statement M
-table-spec =
-    tie.close
-    (tie.spec
-    Inv-loop
-    μ-loop
-    loop-holds
-    cast-entry
-    entry-requires
-    mul-t
-    array-write-t
-    add-b
-    loop-less
-    loop-again
-    returns)
+table-spec = tie.close (tie.spec Inv-loop μ-loop loop-holds cast-entry entry-requires mul-t array-write-t add-b loop-less loop-again returns)

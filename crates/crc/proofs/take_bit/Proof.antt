@@ -1,8 +1,6 @@
 -- `take_bit` meets its contract: it computes what `step` says. Assumes nothing.
-use Prim.Native.Nat.{ℕ, _*_}
-use mathlib.Core.Path.{ap}
-use lib.Bits.{bitXor}
-use Rattle.crc.specs.Crc.{poly, step}
+use Rattle.crc.specs.Remainder.{step}
+use Rattle.crc.proofs.Changes.{poly-is}
 use borrow.Author.Needs.{needs}
 use Rattle.crc.proofs.take_bit.Statement.{statement}
 use Rattle.crc.proofs.take_bit.Tie as tie
@@ -15,7 +13,7 @@ mul-result c = search needs
 
 returns : tie.Need-returns
 unfolding step
-returns c = ap (λ (x : ℕ). bitXor x (c .before .args .b * poly)) (c .times-x .ensures)
+returns c = rw (c .times-x .ensures, poly-is)
 
 pub take-bit-spec : {M : Type 1} → statement M
 take-bit-spec = tie.close (tie.spec times-x-requires mul-result returns)

@@ -3,7 +3,8 @@ use Prim.Native.Nat.{_/_, _^_, _<_}
 use native.Mathlib.Omega.{arith}
 use lib.Bits.{bitXor}
 use Rattle.crc.proofs.Bytewise.{place-lt}
-use Rattle.crc.specs.ByBytes.{byteStep}
+use Rattle.crc.specs.Crc.{width}
+use Rattle.crc.specs.Steps.{byteStep}
 use borrow.Author.Needs.{needs}
 use Rattle.crc.proofs.take_byte.Statement.{statement}
 use Rattle.crc.proofs.take_byte.Tie as tie
@@ -15,7 +16,7 @@ wide-requires : tie.Need-wide-requires
 wide-requires c κs = search needs
 
 place : (c : tie.After-wide) → bitXor (c .before .before .before .args .r / 2 ^ 24) (c .wide .result) < 256
-place c = place-lt (c .before .before .before .args .r) (c .wide .result) (omega arith) (omega arith)
+place c = place-lt width (c .before .before .before .args .r) (c .wide .result) (omega arith) (omega arith) (omega arith)
 
 cast-result : tie.Need-cast-result
 cast-result c = omega (arith, place c)
@@ -31,12 +32,4 @@ unfolding byteStep
 returns c = rw (c .before .wide .ensures .same)
 
 pub take-byte-spec : {M : Type 1} → statement M
-take-byte-spec =
-    tie.close
-    (tie.spec
-    shared-slice-read-wide
-    wide-requires
-    cast-result
-    mul-result
-    element-copy-out-result
-    returns)
+take-byte-spec = tie.close (tie.spec shared-slice-read-wide wide-requires cast-result mul-result element-copy-out-result returns)

@@ -1,6 +1,6 @@
 -- `demands::code` meets its contract, demand 1 of coding. Assumes nothing.
 use denote.Ref.{now}
-use Rattle.demands.proofs.Facts.{code-refuses}
+use Rattle.coder.proofs.Judging.{code-demand-1}
 use borrow.Author.Needs.{needs}
 use Rattle.demands.proofs.code.Statement.{statement}
 use Rattle.demands.proofs.code.Tie as tie
@@ -12,7 +12,7 @@ same-length : tie.Need-same-length
 same-length c = search needs
 
 returns : tie.Need-returns
-returns c = let a = c .before .before .before .before .before .before .before .args in code-refuses (a .n) (a .m0) (now (a .info)) (now (a .parity)) (now (a .capture)) (c .before .before .code .ensures)
+returns c = let a = c .before .before .before .before .before .before .before .args in code-demand-1 (a .n) (a .m0) (now (a .info)) (now (a .parity)) (now (a .capture)) (c .before .before .code .ensures)
 
 pub code-spec : {M : Type 1} → statement M
 code-spec = tie.close (tie.spec code-requires same-length returns)

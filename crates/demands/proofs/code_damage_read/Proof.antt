@@ -13,8 +13,9 @@ same-length c = search needs
 
 returns : tie.Need-returns
 returns c = λ input long i₀ p₀.
-    let a = c .before .before .before .before .before .before .before .before .before .before .before .before .args in
-    absurd (c .if1 .taken (coded-now (a .n) (a .m0) (now (a .info)) (now (a .parity)) (now (a .capture)) input long (c .before .before .before .before .code .ensures) .granted))
+    let k = c .before .before .before .before in
+    let a = k .before .before .before .before .before .before .before .before .args in
+    absurd (c .if1 .taken (coded-now (a .n) (a .m0) (now (a .info)) (now (a .parity)) (now (a .capture)) input long (k .code .ensures) .granted))
 
 damage-requires : tie.Need-damage-requires
 damage-requires c κs = search needs
@@ -33,10 +34,13 @@ same-length-4 c = search needs
 
 returns-2 : tie.Need-returns-2
 returns-2 c = λ input long i₀ p₀.
-    let a = c .before .before .before .before .before .before .before .before .before .before .before .before .before .before .before .before .before .before .before .before .before .before .before .before .args in
-    reads-back (a .n) (a .m0) (now (a .info)) (now (a .parity)) (now (a .flips)) _ _ (now (a .back)) (now (a .parity-back)) input
-    (coded-now (a .n) (a .m0) (now (a .info)) (now (a .parity)) (now (a .capture)) input long (c .before .before .before .before .before .before .before .before .before .before .before .before .before .before .before .before .code .ensures) .capture)
-    (c .before .before .before .before .before .before .before .before .before .before .damage .ensures) i₀ p₀ (c .before .before .before .before .read .ensures)
+    let r = c .before .before .before .before in
+    let d = r .before .before .before .before .before .before in
+    let k = d .before .before .before .before .before .before in
+    let a = k .before .before .before .before .before .before .before .before .args in
+    let coded = coded-now (a .n) (a .m0) (now (a .info)) (now (a .parity)) (now (a .capture)) input long (k .code .ensures) .capture in
+    reads-back (a .n) (a .m0) (now (a .info)) (now (a .parity)) (now (a .flips)) _ _ (now (a .back)) (now (a .parity-back)) input coded (d .damage .ensures) i₀ p₀
+    (r .read .ensures)
 
 pub code-damage-read-spec : {M : Type 1} → statement M
 code-damage-read-spec =

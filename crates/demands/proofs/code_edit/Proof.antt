@@ -13,8 +13,9 @@ same-length c = search needs
 
 returns : tie.Need-returns
 returns c = λ input long e.
-    let a = c .before .before .before .before .before .before .before .before .before .before .before .before .args in
-    absurd (c .if1 .taken (coded-now (a .n) (a .m0) (now (a .info)) (now (a .parity)) (now (a .capture)) input long (c .before .before .before .before .code .ensures) .granted))
+    let k = c .before .before .before .before in
+    let a = k .before .before .before .before .before .before .before .before .args in
+    absurd (c .if1 .taken (coded-now (a .n) (a .m0) (now (a .info)) (now (a .parity)) (now (a .capture)) input long (k .code .ensures) .granted))
 
 edit-requires : tie.Need-edit-requires
 edit-requires c κs = search needs
@@ -27,9 +28,11 @@ same-length-3 c = search needs
 
 returns-2 : tie.Need-returns-2
 returns-2 c = λ input long e.
-    let a = c .before .before .before .before .before .before .before .before .before .before .before .before .before .before .before .before .before .before .before .args in
-    edits-as-coded (a .n) (a .m0) (a .block) (now (a .info)) (now (a .parity)) (now (a .bits)) (now (a .new-parity)) _ (now (a .list))
-    (coded-now (a .n) (a .m0) (now (a .info)) (now (a .parity)) (now (a .capture)) input long (c .before .before .before .before .before .before .before .before .before .before .before .code .ensures) .capture) e (c .before .before .before .before .edit .ensures)
+    let d = c .before .before .before .before in
+    let k = d .before .before .before .before .before .before .before in
+    let a = k .before .before .before .before .before .before .before .before .args in
+    let coded = coded-now (a .n) (a .m0) (now (a .info)) (now (a .parity)) (now (a .capture)) input long (k .code .ensures) .capture in
+    edits-as-coded (a .n) (a .m0) (a .block) (now (a .info)) (now (a .parity)) (now (a .bits)) (now (a .new-parity)) _ (now (a .list)) coded e (d .edit .ensures)
 
 pub code-edit-spec : {M : Type 1} → statement M
 code-edit-spec =

@@ -1,6 +1,6 @@
 -- `demands::edit` meets its contract, demand 1 of editing. Assumes nothing.
 use denote.Ref.{now}
-use Rattle.demands.proofs.Facts.{edit-refuses}
+use Rattle.editing.proofs.Answers.{edit-demand-1}
 use borrow.Author.Needs.{needs}
 use Rattle.demands.proofs.edit.Statement.{statement}
 use Rattle.demands.proofs.edit.Tie as tie
@@ -15,7 +15,7 @@ same-length-2 : tie.Need-same-length-2
 same-length-2 c = search needs
 
 returns : tie.Need-returns
-returns c = let a = c .before .before .before .before .before .before .before .before .before .before .before .args in edit-refuses (a .n) (a .block) (now (a .bits)) (now (a .parity)) (now (a .capture)) (now (a .list)) (c .before .before .before .before .edit .ensures)
+returns c = let a = c .before .before .before .before .before .before .before .before .before .before .before .args in edit-demand-1 (a .n) (a .block) (now (a .bits)) (now (a .parity)) (now (a .capture)) (now (a .list)) (c .before .before .before .before .edit .ensures)
 
 pub edit-spec : {M : Type 1} → statement M
 edit-spec = tie.close (tie.spec edit-requires same-length same-length-2 returns)

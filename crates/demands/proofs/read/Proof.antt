@@ -1,6 +1,6 @@
 -- `demands::read` meets its contract, demand 1 of reading. Assumes nothing.
 use denote.Ref.{now}
-use Rattle.demands.proofs.Facts.{read-refuses}
+use Rattle.reading.proofs.Judging.{read-demand-1}
 use borrow.Author.Needs.{needs}
 use Rattle.demands.proofs.read.Statement.{statement}
 use Rattle.demands.proofs.read.Tie as tie
@@ -15,7 +15,7 @@ same-length-2 : tie.Need-same-length-2
 same-length-2 c = search needs
 
 returns : tie.Need-returns
-returns c = let a = c .before .before .before .before .before .before .before .before .before .before .args in read-refuses (a .n) (a .m0) (now (a .capture)) (now (a .info)) (now (a .parity)) (c .before .before .before .before .read .ensures)
+returns c = let a = c .before .before .before .before .before .before .before .before .before .before .args in read-demand-1 (a .n) (a .m0) (now (a .capture)) (now (a .info)) (now (a .parity)) (c .before .before .before .before .read .ensures)
 
 pub read-spec : {M : Type 1} → statement M
 read-spec = tie.close (tie.spec read-requires same-length same-length-2 returns)

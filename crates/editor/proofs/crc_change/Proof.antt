@@ -5,8 +5,9 @@ use mathlib.Core.Path.{_≡_, refl, ap, _∙_}
 use native.Mathlib.Nat.{mod-eq-of-lt}
 use native.Mathlib.Omega.{arith}
 use denote.Ref.{now}
-use Rattle.crc.specs.Crc.{step, remFrom, remOf, shiftN}
-use Rattle.crc.proofs.Linear.{rem-more}
+use Rattle.crc.specs.Remainder.{remFrom}
+use Rattle.crc.specs.Crc.{step, remOf, shiftN}
+use Rattle.crc.proofs.Changes.{rem-more}
 use Rattle.line_order.specs.Order.{wordIn}
 use Rattle.line.specs.Words.{fecIn}
 use Rattle.sizes.specs.Sizes.{blockBits, clientBlocks}

@@ -17,22 +17,22 @@ use Rattle.editor.proofs.judge.Statement.{statement}
 use Rattle.editor.proofs.judge.Tie as tie
 
 inside : (c : tie.Else1) → let a = c .before .before .args in not (superAllowed (a .n) && ltb (a .block) (blocksOf (a .n))) ≡ false
-inside c = ap not (sym (c .before .has-block .ensures)) ∙ c .if1 .left
+inside c = ap not (sym (c .before .one-of .ensures)) ∙ c .if1 .left
 
 few : (c : tie.Else1) → c .before .before .args .n < 9
 few c =
     let a = c .before .before .args in
     super-frames (a .n) (and-left (superAllowed (a .n)) (ltb (a .block) (blocksOf (a .n))) (not-false (superAllowed (a .n) && ltb (a .block) (blocksOf (a .n))) (inside c))) .few
 
-has-block-requires : tie.Need-has-block-requires
-has-block-requires c κs = search needs
+one-of-requires : tie.Need-one-of-requires
+one-of-requires c κs = search needs
 
 refuse-requires : tie.Need-refuse-requires
 refuse-requires c κs = search needs
 
 returns : tie.Need-returns
 unfolding editEarlyRows inTurn rowThen
-returns c = rw (in-turn, ← (c .before .before .has-block .ensures), c .before .if1 .taken) (c .refuse .ensures)
+returns c = rw (in-turn, ← (c .before .before .one-of .ensures), c .before .if1 .taken) (c .refuse .ensures)
 
 mul-capture-bytes : tie.Need-mul-capture-bytes
 mul-capture-bytes c = omega (arith, few c)
@@ -74,7 +74,7 @@ pub judge-spec : {M : Type 1} → statement M
 judge-spec =
     tie.close
     (tie.spec
-    has-block-requires
+    one-of-requires
     refuse-requires
     returns
     mul-capture-bytes

@@ -1,8 +1,9 @@
 -- `gmp::data_in` meets its contract: the laws `data-outside` and `data-in`. Assumes nothing.
 use native.Mathlib.Omega.{arith}
 use borrow.Author.Needs.{needs}
-use Rattle.gmp.specs.Places.{Stretch}
-use Rattle.gmp.proofs.Counts.{stretch-in, stretch-product, before-product, data-outside, data-in}
+use Rattle.gmp.specs.Steps.{Stretch}
+use Rattle.gmp.proofs.Allowed.{stretch-in}
+use Rattle.gmp.proofs.Counts.{stretch-product, before-product, data-outside, data-in}
 use Rattle.gmp.proofs.data_in.Statement.{statement}
 use Rattle.gmp.proofs.data_in.Tie as tie
 use Rattle.gmp.proofs.data_in.Reads as reads

@@ -4,7 +4,7 @@ use lib.ListN.{length}
 use Rattle.bits.specs.Bits.{byteOf}
 use Rattle.bits.proofs.Lists.{Filled}
 use Rattle.bits.proofs.LoopLaws.{loops}
-use Rattle.mapping.specs.Groups.{pairBit}
+use Rattle.mapping.specs.Steps.{pairBit}
 use Rattle.mapping.proofs.fill_pair.Statement.{statement}
 use Rattle.mapping.proofs.fill_pair.Tie as tie
 

@@ -6,12 +6,12 @@ use Rattle.bits.proofs.Packing.{length-packs}
 use Rattle.scrambler.specs.Scrambler.{o}
 use Rattle.sizes.specs.Sizes.{superBytes, superElements}
 use Rattle.reading.specs.Steps.{followed, plainByte, startOf}
-use Rattle.reading.proofs.Places.{element-byte, part-long, filled-part}
+use Rattle.reading.proofs.Places.{element-byte, filled-part}
 use native.Mathlib.Omega.{arith}
 use denote.Ref.{now}
 use borrow.Author.Needs.{needs}
 use Rattle.bits.specs.Bits.{byteOf}
-use Rattle.bits.proofs.Lists.{Filled, filled-none, filled-all}
+use Rattle.bits.proofs.Lists.{Filled, filled-none, filled-all, part-long}
 use Rattle.line.specs.Slots.{slotOf}
 use Rattle.line.specs.Words.{superIn}
 use Rattle.reading.specs.Read.{repaired}

@@ -2,12 +2,12 @@
 use lib.ListN.{length, take, drop}
 use Rattle.bits.specs.Bits.{bitAt, from, byteOf}
 use Rattle.sizes.specs.Sizes.{fecBits, infoBytes, parityBytes, parityFrom, superInfoBytes, superParityBytes}
-use Rattle.reading.proofs.Places.{info-byte, parity-byte, part-long, filled-part}
+use Rattle.reading.proofs.Places.{info-byte, parity-byte, filled-part}
 use Prim.Native.Nat.{_+_, _-_, _*_, _≤_}
 use native.Mathlib.Omega.{arith}
 use denote.Ref.{now}
 use borrow.Author.Needs.{needs}
-use Rattle.bits.proofs.Lists.{Filled, filled-none, filled-all}
+use Rattle.bits.proofs.Lists.{Filled, filled-none, filled-all, part-long}
 use Rattle.reading.specs.Steps.{infoIn, parityIn}
 use Rattle.reader.proofs.write_blocks.Statement.{statement}
 use Rattle.reader.proofs.write_blocks.Tie as tie

@@ -1,7 +1,7 @@
 -- `run_lines::print_runs` is safe and ends: a run ends at or behind the place asked for, and the measure is the number of places that are left. Assumes nothing.
 use Prim.Native.Nat.{_-_, _≤_}
 use native.Mathlib.Omega.{arith}
-use Rattle.gmp.specs.Places.{Place}
+use Rattle.gmp.specs.Steps.{Place}
 use Rattle.gmp.specs.Runs.{EndsRun}
 use Rattle.gmp.proofs.Asked.{run-ends}
 use Rattle.run_lines.proofs.print_runs.Statement.{statement}

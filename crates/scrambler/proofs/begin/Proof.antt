@@ -6,7 +6,7 @@ use Rattle.bits.specs.Bits.{byteOf}
 use Rattle.bits.proofs.Lists.{Filled, filled-none, filled-more, filled-to}
 use Rattle.bits.proofs.LoopLaws.{loops}
 use Rattle.scrambler.specs.Scrambler.{o}
-use Rattle.scrambler.specs.Register.{register}
+use Rattle.scrambler.specs.Steps.{register}
 use Rattle.scrambler.proofs.Stepping.{starts, upper-half, byte-on}
 use Rattle.scrambler.proofs.begin.Statement.{statement}
 use Rattle.scrambler.proofs.begin.Tie as tie

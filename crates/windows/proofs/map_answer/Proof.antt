@@ -1,6 +1,8 @@
--- `windows::map_answer` meets its contract: each return by the rows of the table. Assumes nothing.
-use native.Mathlib.Omega.{arith}
-use Rattle.windows.proofs.Judging.{window-in, judged}
+-- `windows::map_answer` meets its contract: its tests in turn are the table. Assumes nothing.
+use Rattle.answer.specs.Steps.{inTurn, rowThen, faultsThen}
+use Rattle.answer.proofs.Turns.{turns}
+use Rattle.windows.specs.Answers.{mapAnswer}
+use Rattle.windows.proofs.Judging.{few-places, map-late}
 use borrow.Author.Needs.{needs}
 use Rattle.windows.proofs.map_answer.Statement.{statement}
 use Rattle.windows.proofs.map_answer.Tie as tie
@@ -12,58 +14,39 @@ refuse-requires : tie.Need-refuse-requires
 refuse-requires c κs = search needs
 
 returns : tie.Need-returns
-returns c = search judged
+unfolding mapAnswer
+returns c = search turns
 
 data-in-requires : tie.Need-data-in-requires
 data-in-requires c κs = search needs
 
-mul-if2 : tie.Need-mul-if2
-mul-if2 c = search needs
+group-bytes-requires : tie.Need-group-bytes-requires
+group-bytes-requires c κs = search needs
 
-add-if2 : tie.Need-add-if2
-add-if2 c = search needs
-
-buffer-place-requires : tie.Need-buffer-place-requires
-buffer-place-requires c κs = search needs
-
-refuse-requires-2 : tie.Need-refuse-requires-2
-refuse-requires-2 c κs = search needs
-
-returns-2 : tie.Need-returns-2
-returns-2 c = search judged
-
-mul-if3 : tie.Need-mul-if3
-mul-if3 c =
-    let o = c .before .before .before in
-    let a = o .before .before .args in
-    omega (arith, window-in (a .c) (a .f) (a .n) (o .outside-window .ensures) (c .before .before .if1 .left))
-
-buffer-place-requires-2 : tie.Need-buffer-place-requires-2
-buffer-place-requires-2 c κs = search needs
-
-refuse-requires-3 : tie.Need-refuse-requires-3
-refuse-requires-3 c κs = search needs
-
-returns-3 : tie.Need-returns-3
-returns-3 c = search judged
+window-bytes-requires : tie.Need-window-bytes-requires
+window-bytes-requires c κs = search few-places
 
 spare-set-requires : tie.Need-spare-set-requires
 spare-set-requires c κs = search needs
 
-buffer-place-requires-3 : tie.Need-buffer-place-requires-3
-buffer-place-requires-3 c κs = search needs
-
-refuse-requires-4 : tie.Need-refuse-requires-4
-refuse-requires-4 c κs = search needs
-
-returns-4 : tie.Need-returns-4
-returns-4 c = search judged
+buffer-place-requires : tie.Need-buffer-place-requires
+buffer-place-requires c κs = search needs
 
 granted-requires : tie.Need-granted-requires
 granted-requires c κs = search needs
 
-returns-5 : tie.Need-returns-5
-returns-5 c = search judged
+refuse-if-requires : tie.Need-refuse-if-requires
+refuse-if-requires c κs = search needs
+
+refuse-length-requires : tie.Need-refuse-length-requires
+refuse-length-requires c κs = search needs
+
+refuse-length-requires-2 : tie.Need-refuse-length-requires-2
+refuse-length-requires-2 c κs = search needs
+
+returns-2 : tie.Need-returns-2
+unfolding inTurn rowThen faultsThen
+returns-2 c = search (map-late, turns)
 
 pub map-answer-spec : {M : Type 1} → statement M
 map-answer-spec =
@@ -73,18 +56,12 @@ map-answer-spec =
     refuse-requires
     returns
     data-in-requires
-    mul-if2
-    add-if2
-    buffer-place-requires
-    refuse-requires-2
-    returns-2
-    mul-if3
-    buffer-place-requires-2
-    refuse-requires-3
-    returns-3
+    group-bytes-requires
+    window-bytes-requires
     spare-set-requires
-    buffer-place-requires-3
-    refuse-requires-4
-    returns-4
+    buffer-place-requires
     granted-requires
-    returns-5)
+    refuse-if-requires
+    refuse-length-requires
+    refuse-length-requires-2
+    returns-2)

@@ -1,0 +1,59 @@
+-- DEMAND 2: "One to eight super frames, coded and flushed, read back to every client and parity bit even with one flipped bit in each 128-bit
+-- word, and the count of such words is exact." The theorem is `demand-2` of proofs/Demand2.antt. Assumes nothing: these are definitions.
+use Prim.Native.Nat.{ℕ}
+use mathlib.Core.Bool.{Bool, true, cond}
+use mathlib.Core.Path.{_≡_}
+use mathlib.Core.List.{List}
+use lib.Dec.{ltb}
+use lib.ListN.{length}
+use Rattle.bits.specs.Bits.{Bytes}
+use Rattle.bits.specs.Loops.{count}
+use Rattle.hamming.specs.Code.{turn}
+use Rattle.sizes.specs.Sizes.{wordBits, infoLength, parityLength, words}
+use Rattle.line.specs.Captures.{superAllowed}
+use Rattle.line.specs.Fec.{mbasAllowed}
+use Rattle.line_order.specs.Order.{laid, wordIn}
+use Rattle.answer.specs.Rows.{done}
+use Rattle.answer.specs.declared.Answer.{Answer}
+use Rattle.coder.specs.Code.{captureOf}
+use Rattle.reading.specs.Read.{readAnswer, readLeaves}
+
+-- what is asked of an input: N super frames, an allowed first number, and buffers of the stated lengths. Every input that document 01 allows
+-- is one: `input-all` of proofs/Allowed.antt
+pub record Input (N m0 : ℕ) (info par : List ℕ) : Type 0 where
+  pub frames : superAllowed N ≡ true
+  pub number : mbasAllowed m0 ≡ true
+  pub info-long : length info ≡ infoLength N
+  pub info-bytes : Bytes info
+  pub parity-long : length par ≡ parityLength N
+  pub parity-bytes : Bytes par
+
+-- a choice of at most one bit for each word: a number below 128, the bits of a word, is that bit, any other number is none
+abbrev pub Choice : Type 0
+Choice = ℕ → ℕ
+
+abbrev pub chosen : Choice → ℕ → Bool
+chosen flips w = ltb (flips w) wordBits
+
+-- a word with the chosen bit turned, and a capture with each of its words so
+unfoldable pub hurt : List ℕ → ℕ → List ℕ
+hurt w p = cond (ltb p wordBits) (turn w p) w
+
+unfoldable pub damaged : ℕ → Choice → List ℕ → List ℕ
+damaged N flips cap = laid N (λ w. hurt (wordIn cap w) (flips w))
+
+-- how many words have a bit chosen
+unfoldable pub howMany : ℕ → Choice → ℕ
+howMany N flips = count (chosen flips) (words N)
+
+-- what reading comes to: the answer r, and what is left in the two buffers
+pub record ReadsBack (info par : List ℕ) (seen : ℕ) (r : Answer) (left : List ℕ × List ℕ) : Type 0 where
+  pub answer : r ≡ done seen
+  pub buffers : left ≡ (info, par)
+
+-- whatever the two buffers held before
+abbrev pub Demand2 : ℕ → ℕ → List ℕ → List ℕ → Choice → Type 0
+Demand2 N m0 info par flips =
+    (info₀ par₀ : List ℕ) → length info₀ ≡ infoLength N → length par₀ ≡ parityLength N
+    → ReadsBack info par (howMany N flips) (readAnswer N m0 (damaged N flips (captureOf N m0 info par)) info₀ par₀)
+    (readLeaves N m0 (damaged N flips (captureOf N m0 info par)) info₀ par₀)

@@ -1,0 +1,3 @@
+-- Numbers in decimal.
+pub mod Digits
+pub mod Steps

@@ -1,0 +1,39 @@
+-- THE ROUND TRIP of windows: groups are mapped into a window w, and the window is unmapped into b. What is answered and what is left in both lent
+-- buffers, for any numbers and any buffers. Document 01, "GMP places": "Unmapping gives the groups back and ignores stuff."
+-- `round-trip` of proofs/RoundTrip.antt. Assumes nothing: these are definitions.
+use Prim.Native.Nat.{ℕ}
+use mathlib.Core.Bool.{cond}
+use mathlib.Core.Path.{_≡_}
+use mathlib.Core.List.{List}
+use lib.Dec.{eqb}
+use lib.ListN.{length}
+use Rattle.bits.specs.Bits.{pack}
+use Rattle.answer.specs.Numbers.{allDone, wrongLength}
+use Rattle.answer.specs.Outcomes.{written}
+use Rattle.answer.specs.Rows.{done, refused, wrong, bufferPlace}
+use Rattle.answer.specs.declared.Answer.{Answer}
+use Rattle.gmp.specs.Places.{dataFrom}
+use Rattle.sizes.specs.Sizes.{windowBytes}
+use Rattle.windows.specs.Answers.{mapAnswer}
+use Rattle.mapping.specs.Groups.{windowBit, Mapped, Unmapped}
+
+-- what unmapping answers to a window that was mapped: b, its second buffer, must be as long as the groups, and nothing else is refused
+unfoldable pub backAnswer : ℕ → ℕ → ℕ → List ℕ → List ℕ → Answer
+backAnswer c f n g b = cond (wrong (length g) (length b)) (refused wrongLength (bufferPlace 2)) (done (dataFrom c f n))
+
+-- the answer: of mapping where that is refused, and else of unmapping
+unfoldable pub mapUnmapAnswer : ℕ → ℕ → ℕ → List ℕ → List ℕ → List ℕ → Answer
+mapUnmapAnswer c f n g w b =
+    cond (eqb (mapAnswer c f n g (length w) .number) allDone) (backAnswer c f n g b) (mapAnswer c f n g (length w))
+
+-- what is left in w and b: nothing is changed where mapping is refused; else w has the mapped bytes, and b the groups themselves, or what it had
+-- where it is refused
+unfoldable pub mapUnmapLeaves : ℕ → ℕ → ℕ → List ℕ → List ℕ → List ℕ → List ℕ × List ℕ
+mapUnmapLeaves c f n g w b =
+    written (mapAnswer c f n g (length w)) (pack (windowBytes n) (windowBit c f g), written (backAnswer c f n g b) g b) (w, b)
+
+-- mapping, and then unmapping where it was done: the answer r, and what is left in both buffers
+pub data MapUnmap (c f n : ℕ) (g w b : List ℕ) : Answer → List ℕ × List ℕ → Type 0 where
+  refused-first : {r : Answer} {out : List ℕ} → Mapped c f n g w r out → (r .number ≡ allDone → ⊥) → MapUnmap c f n g w b r (out, b)
+  went-on : {m r : Answer} {out back : List ℕ} → Mapped c f n g w m out → m .number ≡ allDone → Unmapped c f n out b r back
+      → MapUnmap c f n g w b r (out, back)
