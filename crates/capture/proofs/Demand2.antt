@@ -30,10 +30,11 @@ use Rattle.line.specs.Captures.{superAllowed}
 use Rattle.line.specs.Fec.{mbasAllowed, mbasOf, infoBit, blockCrc, fecBit}
 use Rattle.line.specs.Frames.{superOf, elementOf, infoOf, parityOf}
 use Rattle.line.specs.Slots.{holds, slotBit}
-use Rattle.line.specs.Words.{wordIn, wordsOf, superIn, fecIn}
+use Rattle.line_order.specs.Order.{wordIn}
+use Rattle.line.specs.Words.{wordsOf, superIn, fecIn}
 use Rattle.line.proofs.FecLaws.{mbas-lt, info-bits, fec-info, fec-crc, fec-mbas, fec-parity, fec-bits, info-back, parity-back}
 use Rattle.line.proofs.FrameLaws.{super-pad}
-use Rattle.line.proofs.WordLaws.{length-laid, word-laid}
+use Rattle.line_order.proofs.OrderLaws.{length-laid, word-laid}
 use Rattle.coder.specs.Code.{captureOf}
 use Rattle.coder.proofs.Coding.{word-filler}
 use Rattle.reading.specs.Read.{repaired, allZero, isBeyond, isFilled, mbasDiffers, crcDiffers, padDiffers, isSeen, readEarlyRows, readLateRows, readAnswer, readLeaves}

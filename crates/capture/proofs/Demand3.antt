@@ -16,8 +16,9 @@ use Rattle.hamming.specs.Code.{checksOf}
 use Rattle.sizes.specs.Sizes.{captureLength, words, blocksOf}
 use Rattle.line.specs.Captures.{superAllowed}
 use Rattle.line.specs.Fec.{fecBit}
-use Rattle.line.specs.Words.{wordIn, wordsOf}
-use Rattle.line.proofs.WordLaws.{length-laid}
+use Rattle.line_order.specs.Order.{wordIn}
+use Rattle.line.specs.Words.{wordsOf}
+use Rattle.line_order.proofs.OrderLaws.{length-laid}
 use Rattle.coder.specs.Code.{captureOf}
 use Rattle.editing.specs.Edit.{listed, listOf, editedCapture, spareSet, fails, editEarlyRows, editLateRows, editAnswer, editLeaves}
 use Rattle.editing.proofs.Listing.{listed-holding, holding-listed}

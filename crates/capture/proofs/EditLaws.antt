@@ -22,11 +22,12 @@ use Rattle.sizes.specs.Sizes.{blockBits, clientBlocks, infoBits, crcBits, mbasB
 use Rattle.line.specs.Fec.{fields, infoBit, parityBit, blockCrc, fecBit}
 use Rattle.line.specs.Frames.{superOf, elementOf}
 use Rattle.line.specs.Slots.{elementIn, holds, slotBit}
-use Rattle.line.specs.Words.{wordIn, wordsOf, fecIn}
+use Rattle.line_order.specs.Order.{wordIn}
+use Rattle.line.specs.Words.{wordsOf, fecIn}
 use Rattle.line.proofs.FecLaws.{fields-info, fields-crc, fields-mbas, fields-parity, fields-all, fec-info, fec-crc, fec-mbas, fec-parity, fec-bits, info-bits}
 use Rattle.line.proofs.FrameLaws.{super-pad}
 use Rattle.line.proofs.SlotLaws.{held, held-bit, filler-bit}
-use Rattle.line.proofs.WordLaws.{laid-ext, word-laid}
+use Rattle.line_order.proofs.OrderLaws.{laid-ext, word-laid}
 use Rattle.coder.specs.Code.{captureOf}
 use Rattle.editing.specs.Edit.{fecOf, blockFrom, inBlock, replaced, change, crcChange, newCrc, editedBits, editedFec, touched, elementFec, elementLocal, listed, editedWord, editedCapture}
 use Rattle.editing.proofs.Listing.{holding-listed, local-lt}

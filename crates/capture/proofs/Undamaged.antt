@@ -18,7 +18,7 @@ use Rattle.sizes.specs.Sizes.{mbasBits, mbasFrom, fecBlocks, infoLength, parity
 use Rattle.line.specs.Fec.{mbasAllowed, mbasOf, fecBit}
 use Rattle.line.specs.Words.{wordsOf, fecIn}
 use Rattle.line.proofs.CaptureLaws.{super-frames}
-use Rattle.line.proofs.WordLaws.{length-laid, laid-words}
+use Rattle.line_order.proofs.OrderLaws.{length-laid, laid-words}
 use Rattle.coder.specs.Code.{captureOf}
 use Rattle.reading.specs.Read.{repaired, isBeyond, isFilled, isSeen, mbasDiffers, readEarlyRows, readLateRows, readAnswer, readLeaves}
 use Rattle.capture.specs.Demand2.{Input, Choice, chosen, hurt, damaged, howMany, ReadsBack}

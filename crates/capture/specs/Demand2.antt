@@ -12,7 +12,7 @@ use Rattle.hamming.specs.Code.{turn}
 use Rattle.sizes.specs.Sizes.{wordBits, infoLength, parityLength, words}
 use Rattle.line.specs.Captures.{superAllowed}
 use Rattle.line.specs.Fec.{mbasAllowed}
-use Rattle.line.specs.Words.{laid, wordIn}
+use Rattle.line_order.specs.Order.{laid, wordIn}
 use Rattle.answer.specs.Rows.{done}
 use Rattle.answer.specs.declared.Answer.{Answer}
 use Rattle.coder.specs.Code.{captureOf}

@@ -13,7 +13,7 @@ use Rattle.answer.specs.Rows.{done}
 use Rattle.answer.specs.declared.Answer.{Answer}
 use Rattle.sizes.specs.Sizes.{captureLength, words, blockBits, clientBlocks, parityBytes, infoLength, parityLength, blocksOf, blockBytes, listLength}
 use Rattle.line.specs.Captures.{superAllowed}
-use Rattle.line.specs.Words.{wordAt}
+use Rattle.line_order.specs.Order.{wordAt}
 use Rattle.coder.specs.Code.{captureOf}
 use Rattle.editing.specs.Edit.{listed, listOf, spareSet, editAnswer, editLeaves}
 use Rattle.editing.specs.Listed.{Holding, Lists}

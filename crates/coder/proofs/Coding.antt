@@ -1,12 +1,12 @@
 -- From an element to its word, from words to their group, from groups to the capture. Assumes nothing.
 use Prim.Native.Nat.{ℕ, _+_, _*_, _/_, _%_, _<_}
 use mathlib.Core.Bool.{true, false}
-use mathlib.Core.Path.{_≡_, sym, ap, ap₂, _∙_}
-use mathlib.Core.List.{List, []}
+use mathlib.Core.Path.{_≡_, refl, sym, ap, ap₂, _∙_}
+use mathlib.Core.List.{List}
 use native.Mathlib.Omega.{arith}
-use lib.ListN.{getD, replicate}
+use lib.ListN.{length, replicate}
 use Rattle.bits.specs.Bits.{tabulate, bitAt, pack, from, added}
-use Rattle.bits.proofs.Lists.{getD-tabulate, tabulate-ext}
+use Rattle.bits.proofs.Lists.{length-tabulate, is-table}
 use Rattle.bits.proofs.Packing.{bitOf-lt, bitOf-packs}
 use Rattle.matrix.specs.Sums.{tailTable}
 use Rattle.lent.specs.Lent.{byteTable, wordBy}
@@ -14,12 +14,13 @@ use Rattle.hamming.proofs.Words.{coded-ext, coded-zero}
 use Rattle.lent.proofs.Tabled.{by-word}
 use Rattle.scrambler.specs.Scrambler.{o}
 use Rattle.scrambler.proofs.Rule.{o-lt}
-use Rattle.symbols.specs.Group.{symbolAt, laidByte, laidGroup}
-use Rattle.sizes.specs.Sizes.{elementBits, superElements, superBytes}
+use Rattle.line_order.specs.Order.{byteBy, groupSize, lineOrder}
+use Rattle.line_order.specs.Group.{laidGroup}
+use Rattle.line_order.proofs.Groups.{group-laid}
+use Rattle.sizes.specs.Sizes.{elementBits, superElements, superBytes, groupWords}
 use Rattle.line.specs.Frames.{superOf, elementOf}
 use Rattle.line.specs.Slots.{elementIn, holds, slotBit}
-use Rattle.line.specs.Words as place
-use Rattle.line.specs.Words.{wordAt, wordsOf}
+use Rattle.line.specs.Words.{wordsOf}
 use Rattle.line.proofs.SlotLaws.{filler-bit, held-bit}
 use Rattle.coder.specs.Steps.{Agree, plainBit, entry}
 
@@ -55,20 +56,9 @@ module _ (N : ℕ) (F : ℕ → ℕ → ℕ) (w e : ℕ) (sequence table tails p
 
 -- ---- groups
 
--- byte j of group g is a byte of the capture
-pub group-laid : (W : ℕ → List ℕ) (g : ℕ) (ws : List (List ℕ)) (bytes : List ℕ) → ws ≡ tabulate 8 (from W (8 * g)) → bytes ≡ laidGroup ws
-    → tabulate 128 (entry bytes) ≡ tabulate 128 (λ j. getD (W (wordAt (128 * g + j))) (place.symbolAt (128 * g + j)) 0)
-unfolding laidByte symbolAt wordAt place.symbolAt
-group-laid W g ws bytes p q =
-    tabulate-ext 128 (entry bytes) (λ j. getD (W (wordAt (128 * g + j))) (place.symbolAt (128 * g + j)) 0)
-    (λ j l. let d : (128 * g + j) / 128 ≡ g = omega arith in
-    let m : (128 * g + j) % 8 ≡ j % 8 = omega arith in
-    let s : (128 * g + j) % 128 ≡ j = omega arith in
-    rw (d, m, s, q, p)
-    (getD-tabulate 0 128 (laidByte (tabulate 8 (from W (8 * g)))) j l
-    ∙ ap (λ (x : List ℕ). getD x (j / 8) 0) (getD-tabulate [] 8 (from W (8 * g)) (j % 8) (omega arith))))
-
--- the same of what a callee left in the group's part of the capture
-pub group-left : (W : ℕ → List ℕ) (g k : ℕ) (ws : List (List ℕ)) (bytes ys : List ℕ) → k ≡ 128 → ws ≡ tabulate 8 (from W (8 * g)) → bytes ≡ laidGroup ws
-    → ys ≡ tabulate 128 (entry bytes) → ys ≡ tabulate k (λ j. getD (W (wordAt (128 * g + j))) (place.symbolAt (128 * g + j)) 0)
-group-left W g k ws bytes ys p pw pb py = rw p (py ∙ group-laid W g ws bytes pw pb)
+-- what a callee left in the group's part of the capture is a part of the words laid out
+pub group-left : (W : ℕ → List ℕ) (g k : ℕ) (ws : List (List ℕ)) (bytes ys : List ℕ) → k ≡ groupSize → ws ≡ tabulate groupWords (from W (groupWords * g))
+    → bytes ≡ laidGroup ws → ys ≡ tabulate groupSize (entry bytes) → ys ≡ tabulate k (from (byteBy lineOrder W) (groupSize * g))
+group-left W g k ws bytes ys p pw pb py =
+    let e : bytes ≡ tabulate groupSize (from (byteBy lineOrder W) (groupSize * g)) = pb ∙ ap laidGroup pw ∙ group-laid W g in
+    rw p (py ∙ sym (is-table 0 groupSize (entry bytes) bytes (ap length e ∙ length-tabulate groupSize (from (byteBy lineOrder W) (groupSize * g))) (λ j l. refl)) ∙ e)

@@ -11,7 +11,8 @@ use Rattle.answer.specs.declared.Answer.{Answer}
 use Rattle.sizes.specs.Sizes.{infoLength, parityLength, captureLength, words}
 use Rattle.line.specs.Captures.{superAllowed}
 use Rattle.line.specs.Fec.{mbasAllowed, fecBit}
-use Rattle.line.specs.Words.{laid, wordsOf}
+use Rattle.line_order.specs.Order.{laid}
+use Rattle.line.specs.Words.{wordsOf}
 
 -- the capture of N super frames, coded and flushed: FEC blocks, super frames, elements, slots, words, symbols
 unfoldable pub captureOf : ℕ → ℕ → List ℕ → List ℕ → List ℕ

@@ -117,8 +117,11 @@ fn write_groups(
 {
     for g in 0..SUPER_GROUPS * n + FILLER_GROUPS {
         let words = group(n, m0, info, parity, crcs, sequence, table, tails, g);
-        let from = 128 * g;
-        put_group(&mut capture[from..from + 128], symbols::interleave(words));
+        let from = sizes::GROUP_BYTES * g;
+        put_group(
+            &mut capture[from..from + sizes::GROUP_BYTES],
+            line_order::interleave(words),
+        );
     }
 }
 
@@ -165,7 +168,7 @@ fn word(
     let e = line::element_in(w);
     let plain = plain_element(n, m0, info, parity, crcs, e);
     let mask = copies::word_from(sequence, sizes::ELEMENT_BITS * (e % sizes::SUPER_ELEMENTS));
-    lent::encode_by(table, tails, capture_words::sum(plain, mask))
+    lent::encode_by(table, tails, copies::sum(plain, mask))
 }
 
 // Element e before it is scrambled. Only its 119 bits count: those behind them are of whatever follows.

@@ -1,8 +1,8 @@
-// Bits copied out of bytes, from any bit on. Every function takes any slice and any number: past the end there are zeros.
+// Bits copied out of bytes, from any bit on, and words added. Every function takes any slice and any number: past the end there are zeros.
 ghost use mathlib.Core.Path.{_≡_};
 ghost use Prim.Native.Nat.{_+_, _/_, _<_};
 ghost use lib.ListN.{length};
-ghost use Rattle.bits.specs.Bits.{bitAt, pack, from};
+ghost use Rattle.bits.specs.Bits.{bitAt, pack, from, added};
 
 // Fills out with the bits from bit i on, where the slice reaches past them: no byte is tested.
 fn copy_inside(s: &[u8], i: usize, out: &mut [u8])
@@ -46,5 +46,16 @@ pub fn word_from(s: &[u8], i: usize) -> [u8; 16]
 {
     let mut r = [0u8; 16];
     copy(s, i, &mut r);
+    r
+}
+
+// Bit by bit, the sum of two words without carries.
+pub fn sum(a: [u8; 16], b: [u8; 16]) -> [u8; 16]
+    ensures { λ r. ⌜ r ≡ pack 16 (added (bitAt a) (bitAt b)) ⌝ }
+{
+    let mut r = [0u8; 16];
+    for k in 0..16 {
+        r[k] = a[k] ^ b[k];
+    }
     r
 }

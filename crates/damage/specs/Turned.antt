@@ -1,18 +1,15 @@
 -- A capture with bits of a word turned. Assumes nothing: these are definitions.
 use Prim.Native.Nat.{ℕ, _+_, _*_, _/_, _%_, _^_}
 use mathlib.Core.List.{List}
-use lib.Bits.{bitXor}
-use lib.ListN.{length, getD, set, replicate}
+use lib.ListN.{length, set, replicate}
+use Rattle.bits.specs.Bits.{bitAt, pack, added}
 use Rattle.bits.specs.Loops.{upto}
-use Rattle.line.specs.Words.{symbolPlace}
+use Rattle.sizes.specs.Sizes.{wordBytes}
+use Rattle.line_order.specs.Order.{wordIn, putWord}
 
--- symbol k of word w takes in byte k of v, bit by bit and without carries; past the end nothing changes
-unfoldable pub turnedSymbol : ℕ → List ℕ → ℕ → List ℕ → List ℕ
-turnedSymbol w v k cap = set cap (symbolPlace w k) (bitXor (getD cap (symbolPlace w k) 0) (getD v k 0))
-
--- all sixteen symbols
+-- word w takes in the word v, bit by bit and without carries; past the end nothing changes
 unfoldable pub turnedWord : ℕ → List ℕ → List ℕ → List ℕ
-turnedWord w v cap = upto (turnedSymbol w v) cap 16
+turnedWord w v cap = putWord cap w (pack wordBytes (added (bitAt (wordIn cap w)) (bitAt v)))
 
 -- the word that has bit i only, the top bit of a byte being 128; none where i is past its 128 bits
 unfoldable pub bitAlone : ℕ → List ℕ

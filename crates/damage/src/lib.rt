@@ -1,32 +1,12 @@
 // Damage to a capture, for the programs: bits of a word are turned. Turned once more they are as they were.
 ghost use mathlib.Core.Path.{_≡_};
-ghost use Rattle.damage.specs.Turned.{turnedSymbol, turnedWord, bitAlone, turnedInAll};
-ghost use Prim.Native.Nat.{_<_};
+ghost use Rattle.damage.specs.Turned.{turnedWord, bitAlone, turnedInAll};
 
-// Turns in symbol k of word w the bits that v has there. Past the end of the capture nothing is turned, and no sum here can overflow.
-fn turn_symbol(capture: &mut [u8], w: usize, v: [u8; 16], k: usize)
-    requires { ⌜ k < 16 ⌝ }
-    ensures { λ _. ⌜ now (capture .exit) ≡ turnedSymbol w v k (now (capture .entry)) ⌝ }
-{
-    let g = w / 8;
-    if capture.len() / 128 < g {
-        return;
-    }
-    let group = 128 * g;
-    let at = 8 * k + w % 8;
-    if capture.len() - group <= at {
-        return;
-    }
-    capture[group + at] = capture[group + at] ^ v[k];
-}
-
-// Turns in word w of a capture the bits that v has.
+// Turns in word w of a capture the bits that v has. Past the end of the capture nothing is turned.
 pub fn turn(capture: &mut [u8], w: usize, v: [u8; 16])
     ensures { λ _. ⌜ now (capture .exit) ≡ turnedWord w v (now (capture .entry)) ⌝ }
 {
-    for k in 0..16 {
-        turn_symbol(capture, w, v, k);
-    }
+    line_order::put_word(capture, w, copies::sum(line_order::word_in(capture, w), v));
 }
 
 // The word that has bit i only, and none where i is not one of the 128.

@@ -15,7 +15,7 @@ use Rattle.sizes.specs.Sizes.{infoLength, parityLength, captureLength, words}
 use Rattle.line.specs.Captures.{superAllowed}
 use Rattle.line.specs.Fec.{mbasAllowed, fecBit}
 use Rattle.line.specs.Words.{wordsOf}
-use Rattle.line.proofs.WordLaws.{length-laid}
+use Rattle.line_order.proofs.OrderLaws.{length-laid}
 use Rattle.coder.specs.Code.{captureOf, codeRows, codeAnswer, codeLeaves}
 use Rattle.reading.specs.Read.{readAnswer, readLeaves}
 use Rattle.editing.specs.Edit.{editAnswer, editLeaves}

@@ -9,7 +9,7 @@ use Rattle.hamming.proofs.Words.{coded-zero}
 use Rattle.scrambler.specs.Scrambler.{o}
 use Rattle.scrambler.proofs.Rule.{o-24}
 use Rattle.line.specs.Slots.{delay, slotOf}
-use Rattle.line.specs.Words.{symbolPlace}
+use Rattle.line_order.specs.Order.{symbolPlace}
 
 -- stuff is 0 and data 1
 pub starred :

@@ -13,8 +13,9 @@ ghost use Rattle.coder.specs.Code.{captureOf, codeRows};
 ghost use Rattle.reading.specs.Read.{isSeen, given, readRows};
 ghost use Rattle.editing.specs.Edit.{listed, edited, editRows};
 ghost use Rattle.mapping.specs.RoundTrip.{mapUnmapAnswer, mapUnmapLeaves};
-ghost use Rattle.demands.specs.Demands.{ReadsDamaged, EditsCoded};
-ghost use Rattle.demands.specs.Hurt.{hurtByte, hurtBytes, Chosen};
+ghost use Rattle.capture.specs.Demand2.{hurt};
+ghost use Rattle.demands.specs.Demands.{choiceOf, ReadsDamaged, EditsCoded};
+ghost use Rattle.demands.specs.Hurt.{hurtBytes};
 
 // Demand 1 of coding.
 pub fn code(n: u64, m0: u64, info: &[u8], parity: &[u8], capture: &mut [u8]) -> Answer
@@ -71,29 +72,30 @@ pub fn code_damage_read(
     capture::read(n, m0, capture, back, parity_back)
 }
 
-// Turns the chosen bits.
+// Turns the chosen bits, word by word.
 fn damage(flips: &[u8], capture: &mut [u8])
     ensures { λ _. ⌜ now (capture .exit) ≡ hurtBytes (now (flips .entry)) (now (capture .entry)) ⌝ }
 {
-    for b in 0..capture.len() {
-        capture[b] = hurt_byte(flips, b, capture[b]);
+    for w in 0..capture.len() / sizes::WORD_BYTES {
+        let v = hurt_word(line_order::word_in(capture, w), choice(flips, w));
+        line_order::put_word(capture, w, v);
     }
 }
 
-// Byte b of the capture, where it is x: its bit is turned where it is the chosen one of its word.
-fn hurt_byte(flips: &[u8], b: usize, x: u8) -> u8
-    ensures { λ r. ⌜ r ≡ hurtByte (now (flips .entry)) b x ⌝ }
+// The word v with its bit p turned, if it has one.
+fn hurt_word(v: [u8; 16], p: usize) -> [u8; 16]
+    ensures { λ r. ⌜ r ≡ hurt v p ⌝ }
 {
-    let p = choice(flips, 8 * (b / 128) + b % 8);
-    if p / 8 == b % 128 / 8 {
-        return x ^ (128 >> (p % 8));
+    let mut r = v;
+    if p < sizes::WORD_BITS {
+        r[p / 8] = v[p / 8] ^ (128 >> (p % 8));
     }
-    x
+    r
 }
 
 // The bit chosen for word w, or none.
 fn choice(flips: &[u8], w: usize) -> usize
-    ensures { λ r. ⌜ Chosen (now (flips .entry)) w r ⌝ }
+    ensures { λ r. ⌜ r ≡ choiceOf (now (flips .entry)) w ⌝ }
 {
     if w < flips.len() {
         return bits::wide(flips[w]) as usize;

@@ -62,7 +62,7 @@ fn word(w: usize) {
 fn symbol() {
     let mut capture = [0u8; 256];
     capture[145] = 145;
-    let v = capture_words::word_in(&capture, 9);
+    let v = line_order::word_in(&capture, 9);
     said::number(b"word 9 symbol 2: byte ", wide(v[2]));
     said::text(b"\n");
 }

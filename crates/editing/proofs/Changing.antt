@@ -15,8 +15,9 @@ use Rattle.scrambler.proofs.Period.{within-period}
 use Rattle.sizes.specs.Sizes.{blockBits, infoBits, fecBits, fecBlocks, elementBits, superElements, fecElements}
 use Rattle.line.specs.Frames.{superFrom, fecFrom}
 use Rattle.line.specs.Slots.{slotOf}
-use Rattle.line.specs.Words.{symbolPlace, wordIn, elementFrom, superIn, fecIn}
-use Rattle.line.proofs.WordLaws.{word-symbol}
+use Rattle.line_order.specs.Order.{symbolPlace, wordIn}
+use Rattle.line.specs.Words.{elementFrom, superIn, fecIn}
+use Rattle.line_order.proofs.OrderLaws.{word-symbol}
 use Rattle.editing.specs.Edit.{blockFrom, inBlock, replaced, change, crcChange, elementFec, elementLocal}
 use Rattle.editing.specs.Steps.{onePeriod}
 use Rattle.editing.proofs.Touching.{block-in, block-before, block-past}

@@ -1,17 +1,17 @@
 -- Which words are listed: what `listed` means, how many there are, and the list of them. Assumes nothing.
 use Prim.Native.Nat.{ℕ, suc, _+_, _-_, _*_, _/_, _%_, _≤_, _<_}
-use mathlib.Core.Bool.{Bool, true, false, cond, not, _&&_}
+use mathlib.Core.Bool.{Bool, true, false, cond, not, _&&_, and-true, and-false}
 use mathlib.Core.Path.{_≡_, refl, sym, ap, _∙_}
 use mathlib.Core.List.{List}
 use native.Mathlib.Decide.{decLt}
 use native.Mathlib.Omega.{arith}
-use borrow.Author.Tests.{leb-false, eqb-true, eq-eqb, lt-ltb, le-ltb, le-leb, lt-leb, not-true}
+use borrow.Author.Tests.{leb-false, eqb-true, eq-eqb, lt-ltb, le-ltb, lt-leb, not-true}
 use lib.Dec.{ltb, eqb}
 use Rattle.bits.specs.Loops.{count}
 use Rattle.bits.proofs.Common.{clash, and-left, and-right}
 use Rattle.hamming.specs.Code.{checksOf}
-use Rattle.line.specs.Words.{wordIn}
-use Rattle.sizes.specs.Sizes.{fecBlocks, elementBits, superElements, fecElements, infoElements, words, longestWait, blocksOf}
+use Rattle.line_order.specs.Order.{wordIn}
+use Rattle.sizes.specs.Sizes.{fecBlocks, elementBits, superElements, fecElements, infoElements, words, blocksOf}
 use Rattle.line.specs.Slots.{slotOf, delay, elementIn, holds}
 use Rattle.line.proofs.SlotLaws.{held}
 use Rattle.editing.specs.Edit.{fecOf, blockFrom, elementFec, elementLocal, isPad, touches, listed, fails}
@@ -168,34 +168,31 @@ own-fec b m h =
 pub own-in : (N b m : ℕ) → b < blocksOf N → m < fecElements → firstElement b + m < superElements * N
 own-in N b m h l = omega arith
 
--- how code sees the element of a word: with 480 more, it is the word and 32 times its row
-pub row-element : (w e : ℕ) → w + 32 * (w % 16) ≡ e + longestWait → (delay w ≤ w) × (elementIn w ≡ e)
-unfolding delay elementIn
-row-element w e h = (omega arith, omega arith)
-
-pub row-of : (w e : ℕ) → slotOf e ≡ w → w + 32 * (w % 16) ≡ e + longestWait
-unfolding slotOf delay
-row-of w e h = omega arith
-
--- one of another FEC block, of the pad, or filler
-pub listed-elsewhere : (N b w : ℕ) → ((m : ℕ) → m < fecElements → w + 32 * (w % 16) ≡ firstElement b + m + longestWait → ⊥) → false ≡ listed N b w
+-- how code sees it, by the number of the element: one of another FEC block or of the pad
+pub listed-elsewhere : (N b w : ℕ) → ((m : ℕ) → m < fecElements → elementIn w ≡ firstElement b + m → ⊥) → false ≡ listed N b w
 listed-elsewhere N b w n = by (listed N b w) refl
   where
     by : (t : Bool) → listed N b w ≡ t → false ≡ listed N b w
     by true h =
         let l = listed-holding N b w h in
         let e = elementIn w in
-        absurd (n (elementLocal e) (local-lt e) (row-of w e (held N w (l .element) .back) ∙ ap (λ (x : ℕ). x + longestWait) (element-is b e (l .no-pad) (l .block))))
+        absurd (n (elementLocal e) (local-lt e) (element-is b e (l .no-pad) (l .block)))
     by false h = sym h
 
--- one of the client block's FEC block
-pub listed-touches : (N b w m : ℕ) → b < blocksOf N → m < fecElements → w + 32 * (w % 16) ≡ firstElement b + m + longestWait → touches b (elementBits * m) elementBits ≡ listed N b w
-unfolding listed holds
-listed-touches N b w m h l q =
-    let r = row-element w (firstElement b + m) q in
-    let e = r .1 in
-    let f = own-fec b m l in
-    rw (le-leb (delay w) w (r .0), e, lt-ltb (firstElement b + m) (superElements * N) (own-in N b m h l), no-pad-test (firstElement b + m) (own-element b m l), f .1, eq-eqb (elementFec (firstElement b + m)) (fecOf b) (f .0))
+-- one of the client block's FEC block, or filler
+module _ (N b w m : ℕ) (l : m < fecElements) (e : elementIn w ≡ firstElement b + m) where
+  listed-own : holds N w && touches b (elementBits * m) elementBits ≡ listed N b w
+  unfolding listed
+  listed-own =
+      let f = own-fec b m l in
+      let pad = no-pad-test (firstElement b + m) (own-element b m l) in
+      rw (e, pad, f .1, eq-eqb (elementFec (firstElement b + m)) (fecOf b) (f .0), and-true (holds N w), and-true (holds N w))
+
+  pub listed-untouched : touches b (elementBits * m) elementBits ≡ false → false ≡ listed N b w
+  listed-untouched h = sym (and-false (holds N w)) ∙ rw (← h) listed-own
+
+  pub listed-touched : touches b (elementBits * m) elementBits ≡ true → holds N w ≡ listed N b w
+  listed-touched h = sym (and-true (holds N w)) ∙ rw (← h) listed-own
 
 -- ---- the stretch of words that can be listed
 

@@ -1,80 +1,29 @@
--- A word put into a capture, and the pass that makes the listed words anew: where it starts, a turn, where it ends. Assumes nothing.
+-- The pass that makes the listed words anew: where it starts, a turn, where it ends. Assumes nothing.
 use Prim.Native.Nat.{ℕ, zero, suc, _+_, _-_, _≤_, _<_}
 use mathlib.Core.Bool.{Bool, true, false, cond}
 use mathlib.Core.Path.{_≡_, refl, sym, ap, ap₂, _∙_}
 use mathlib.Core.List.{List, _++_}
 use mathlib.Core.Logic.{⊎-elim}
-use native.Mathlib.Nat.{not-suc-le-zero, eq-or-lt-of-le, add-zero, add-suc}
+use native.Mathlib.Nat.{eq-or-lt-of-le, add-zero, add-suc}
 use native.Mathlib.Numerals.{add-one}
 use native.Mathlib.Decide.{ℕ-discrete}
 use native.Mathlib.Omega.{arith}
-use borrow.Author.Tests.{ltb-true, ltb-false, lt-ltb, le-ltb}
-use lib.Dec.{ltb}
-use lib.ListN.{length, getD, set, drop, length-set, length-append, length-drop}
-use lib.Seq.{getD-set-same, getD-set-other}
-use Rattle.bits.specs.Loops.{upto, count}
-use Rattle.bits.proofs.Lists.{tabulate-ext, is-table}
+use borrow.Author.Tests.{ltb-true, ltb-false, lt-ltb, le-ltb, eq-eqb, ne-eqb}
+use lib.Dec.{ltb, eqb}
+use lib.ListN.{length, set, drop, length-append, length-drop}
+use Rattle.bits.specs.Loops.{count}
 use Rattle.hamming.proofs.Words.{coded-long}
 use Rattle.sizes.specs.Sizes.{captureLength, words, listLength}
 use Rattle.line.specs.Frames.{superOf, elementOf}
 use Rattle.line.specs.Slots.{slotBit}
-use Rattle.line.specs.Words.{symbolPlace, wordAt, symbolAt, laid, symbolOf, wordIn, wordsOf, fecIn}
-use Rattle.line.proofs.WordLaws.{word-at, symbol-at, place-lt, length-laid, length-word, word-laid, laid-ext, laid-words}
+use Rattle.line_order.specs.Order.{laid, wordIn, putWord, changed}
+use Rattle.line.specs.Words.{wordsOf, fecIn}
+use Rattle.line_order.proofs.OrderLaws.{length-laid, length-word, word-laid, laid-ext, laid-words, put-laid}
 use Rattle.editing.specs.Edit.{fecOf, crcChange, editedFec, listed, picked, listOf, editedWord, editedCapture}
-use Rattle.editing.specs.Steps.{remade, putSymbol, putWord, mixed, listing, Passing, Turned}
+use Rattle.editing.specs.Steps.{remade, mixed, listing, Passing, Turned}
 use Rattle.editing.proofs.Picking.{length-picked, picked-no, picked-set, count-yes, count-no}
 use Rattle.editing.proofs.Listing.{listed-few}
 use Rattle.editing.proofs.Remaking.{word-made}
-
--- ---- a word put into a capture
-
-module _ (cap : List ℕ) (w : ℕ) (v : List ℕ) where
-  abbrev put : ℕ → List ℕ
-  put k = upto (putSymbol w v) cap k
-
-  put-length : (k : ℕ) → length (put k) ≡ length cap
-  unfolding upto putSymbol
-  put-length zero = refl
-  put-length (suc k) = length-set (put k) (symbolPlace w k) (getD v k 0) ∙ put-length k
-
-  -- a byte of another word stays
-  put-other : (k b : ℕ) → k ≤ 16 → (wordAt b ≡ w → ⊥) → getD (put k) b 0 ≡ getD cap b 0
-  unfolding upto putSymbol
-  put-other zero b h n = refl
-  put-other (suc k) b h n =
-      getD-set-other (put k) (symbolPlace w k) b (getD v k 0) 0 (λ q. n (ap wordAt q ∙ word-at w k (omega arith)))
-      ∙ put-other k b (omega arith) n
-
-  -- the symbols put so far
-  put-here : (k j : ℕ) → k ≤ 16 → j < k → symbolPlace w j < length cap → getD (put k) (symbolPlace w j) 0 ≡ getD v j 0
-  unfolding upto putSymbol
-  put-here zero j h l m = absurd (not-suc-le-zero l)
-  put-here (suc k) j h l m = by (ℕ-discrete j k) (λ n. put-here k j (omega arith) n m)
-    where
-      by : Dec (j ≡ k) → (j < k → getD (put k) (symbolPlace w j) 0 ≡ getD v j 0) → getD (set (put k) (symbolPlace w k) (getD v k 0)) (symbolPlace w j) 0 ≡ getD v j 0
-      by (yes q) r = rw (← q) (getD-set-same (put j) (symbolPlace w j) (getD v j 0) 0 (rw (put-length j) m))
-      by (no n) r =
-          getD-set-other (put k) (symbolPlace w k) (symbolPlace w j) (getD v k 0) 0
-          (λ q. n (sym (symbol-at w j (omega arith)) ∙ ap symbolAt q ∙ symbol-at w k (omega arith)))
-          ∙ r (omega arith)
-
-  pub put-long : length (putWord cap w v) ≡ length cap
-  unfolding putWord
-  put-long = put-length 16
-
-  -- the word itself
-  pub word-put : (N : ℕ) → length cap ≡ captureLength N → w < words N → length v ≡ 16 → wordIn (putWord cap w v) w ≡ v
-  unfolding putWord wordIn
-  word-put N e h len =
-      sym (is-table 0 16 (λ k. getD (put 16) (symbolPlace w k) 0) v len
-      (λ k l. sym (put-here 16 k (omega arith) l (rw e (place-lt N w k h l)))))
-
-  -- every other word
-  pub word-other : (x : ℕ) → (x ≡ w → ⊥) → wordIn (putWord cap w v) x ≡ wordIn cap x
-  unfolding putWord wordIn
-  word-other x n =
-      tabulate-ext 16 (λ k. getD (put 16) (symbolPlace x k) 0) (symbolOf cap x)
-      (λ k l. put-other 16 (symbolPlace x k) (omega arith) (λ q. n (sym (word-at x k l) ∙ q)))
 
 -- ---- the words so far
 
@@ -128,15 +77,12 @@ module _ (N b : ℕ) (bits parity cap : List ℕ) where
   mixed-here w h = word-laid N (mix w) w h (mixed-long w w) ∙ mixed-past w w (omega arith)
 
   mixed-put : (w : ℕ) (v : List ℕ) → w < words N → v ≡ editedWord N b bits parity cap w → putWord (laid N (mix w)) w v ≡ laid N (mix (suc w))
-  mixed-put w v h e =
-      let s = laid N (mix w) in
-      let len : length v ≡ 16 = ap length e ∙ edited-long N b bits parity cap w in
-      sym (laid-words N (putWord s w v) (put-long s w v ∙ length-laid N (mix w)))
-      ∙ laid-ext N (wordIn (putWord s w v)) (mix (suc w)) (λ x l. by x l (ℕ-discrete x w) len)
+  unfolding changed
+  mixed-put w v h e = put-laid N (mix w) w v h ∙ laid-ext N (changed (mix w) w v) (mix (suc w)) (λ x l. by x (ℕ-discrete x w))
     where
-      by : (x : ℕ) → x < words N → Dec (x ≡ w) → length v ≡ 16 → wordIn (putWord (laid N (mix w)) w v) x ≡ mix (suc w) x
-      by x l (yes q) len = rw q (word-put (laid N (mix w)) w v N (length-laid N (mix w)) h len ∙ e ∙ sym (mixed-done (suc w) w (omega arith)))
-      by x l (no n) len = word-other (laid N (mix w)) w v x n ∙ word-laid N (mix w) x l (mixed-long w x) ∙ mixed-other w x n
+      by : (x : ℕ) → Dec (x ≡ w) → cond (eqb x w) v (mix w x) ≡ mix (suc w) x
+      by x (yes q) = rw (eq-eqb x w q) (e ∙ rw q (sym (mixed-done (suc w) w (omega arith))))
+      by x (no n) = rw (ne-eqb x w n) (mixed-other w x n)
 
   mixed-skip : (w : ℕ) → listed N b w ≡ false → laid N (mix w) ≡ laid N (mix (suc w))
   mixed-skip w e = laid-ext N (mix w) (mix (suc w)) (λ x l. by x (ℕ-discrete x w))

@@ -10,9 +10,10 @@ use Rattle.bits.specs.Loops.{count}
 use Rattle.bits.proofs.Common.{by-bound}
 use Rattle.sizes.specs.Sizes.{elementBits, fecElements, infoElements, captureLength, words, blocksOf}
 use Rattle.line.specs.Slots.{slotOf, elementIn}
-use Rattle.line.specs.Words.{wordAt, symbolAt, wordIn, wordsOf, fecIn}
+use Rattle.line_order.specs.Order.{wordAt, symbolAt, wordIn}
+use Rattle.line.specs.Words.{wordsOf, fecIn}
 use Rattle.line.proofs.SlotLaws.{element-slot, slot-lt, slot-once, holds-slot}
-use Rattle.line.proofs.WordLaws.{word-laid, word-lt, word-symbol, symbol-lt, place-back}
+use Rattle.line_order.proofs.OrderLaws.{word-laid, word-lt, byte-word}
 use Rattle.editing.specs.Edit.{blockFrom, editedFec, elementLocal, touches, listed, listOf, editedWord, editedCapture}
 use Rattle.editing.specs.Listed.{Lists}
 use Rattle.editing.specs.Steps.{firstElement}
@@ -113,6 +114,6 @@ module _ (N b : ℕ) (bits parity cap : List ℕ) where
 
   pub byte-kept : (i : ℕ) → i < captureLength N → listed N b (wordAt i) ≡ false → getD (editedCapture N b bits parity cap) i 0 ≡ getD cap i 0
   byte-kept i h e =
-      let s = editedCapture N b bits parity cap in
-      let at : (c : List ℕ) → getD (wordIn c (wordAt i)) (symbolAt i) 0 ≡ getD c i 0 = λ c. word-symbol c (wordAt i) (symbolAt i) (symbol-lt i) ∙ ap (λ (x : ℕ). getD c x 0) (place-back i) in
-      sym (at s) ∙ ap (λ (v : List ℕ). getD v (symbolAt i) 0) (word-kept (wordAt i) (word-lt N i h) e) ∙ at cap
+      sym (byte-word N (editedCapture N b bits parity cap) i h)
+      ∙ ap (λ (v : List ℕ). getD v (symbolAt i) 0) (word-kept (wordAt i) (word-lt N i h) e)
+      ∙ byte-word N cap i h

@@ -14,7 +14,8 @@ use Rattle.hamming.proofs.Words.{coded-ext}
 use Rattle.sizes.specs.Sizes.{infoBits, crcBits, mbasBits, mbasFrom, parityFrom, fecBits, fecBlocks, elementBits, superElements, fecElements, infoElements}
 use Rattle.line.specs.Frames.{superOf, elementOf}
 use Rattle.line.specs.Slots.{elementIn, slotBit}
-use Rattle.line.specs.Words.{wordIn, wordsOf, fecIn}
+use Rattle.line_order.specs.Order.{wordIn}
+use Rattle.line.specs.Words.{wordsOf, fecIn}
 use Rattle.line.proofs.FecLaws.{fields-info, fields-crc, fields-mbas, fields-parity, fields-bits, fields-all}
 use Rattle.line.proofs.FrameLaws.{element-fec}
 use Rattle.line.proofs.SlotLaws.{held, held-bit}

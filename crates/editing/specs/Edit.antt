@@ -17,7 +17,8 @@ use Rattle.sizes.specs.Sizes.{blockBytes, listLength, blocksOf, blockBits, clie
 use Rattle.line.specs.Captures.{superAllowed}
 use Rattle.line.specs.Fec.{fields}
 use Rattle.line.specs.Slots.{elementIn, holds}
-use Rattle.line.specs.Words.{laid, wordIn, wordsOf, fecIn}
+use Rattle.line_order.specs.Order.{laid, wordIn}
+use Rattle.line.specs.Words.{wordsOf, fecIn}
 
 -- ---- the bits of an FEC block, edited. Client block b lies in FEC block b / 952, from bit 257 (b mod 952) on
 

@@ -1,13 +1,12 @@
--- The steps of an edit as the code takes them: a word made anew from its received bytes, a word put back into
--- the capture, and how far a pass has come. Assumes nothing: these are definitions.
+-- The steps of an edit as the code takes them: a word made anew from its received bytes, and how far a pass has come. Assumes nothing: these are definitions.
 use Prim.Native.Nat.{ℕ, _+_, _-_, _*_, _/_, _%_, _≤_, _<_}
 use mathlib.Core.Bool.{false, cond}
 use mathlib.Core.Path.{_≡_}
 use mathlib.Core.List.{List, _++_}
 use lib.Dec.{ltb}
-use lib.ListN.{length, getD, set, drop}
+use lib.ListN.{length, set, drop}
 use Rattle.bits.specs.Bits.{digit, bitAt, pack}
-use Rattle.bits.specs.Loops.{upto, count}
+use Rattle.bits.specs.Loops.{count}
 use Rattle.scrambler.specs.Scrambler.{o}
 use Rattle.hamming.specs.Code.{coded}
 use Rattle.matrix.specs.Sums.{tailTable}
@@ -15,7 +14,7 @@ use Rattle.lent.specs.Lent.{byteTable}
 use Rattle.sizes.specs.Sizes.{crcBits, parityFrom, parityBytes, fecBlocks, elementBits, superElements, fecElements, captureLength, longestWait, blocksOf, blockBytes, listLength}
 use Rattle.line.specs.Fec.{fields}
 use Rattle.line.specs.Slots.{elementIn}
-use Rattle.line.specs.Words.{symbolPlace, laid, wordIn}
+use Rattle.line_order.specs.Order.{laid, wordIn, putWord}
 use Rattle.editing.specs.Edit.{fecOf, inBlock, blockFrom, elementLocal, listed, picked, editedWord, spareSet}
 
 -- ---- what a call has shown that none of the numbers 1 to 3 refuses
@@ -65,14 +64,6 @@ parityElement parity e i = (bitAt parity (elementBits * elementLocal e - parityF
 -- word w, check bits and all
 unfoldable pub remade : ℕ → List ℕ → List ℕ → ℕ → ℕ → List ℕ → List ℕ
 remade b bits parity crc w old = coded (newElement b bits parity crc (elementIn w) old)
-
--- ---- a word put into a capture, symbol by symbol
-
-unfoldable pub putSymbol : ℕ → List ℕ → ℕ → List ℕ → List ℕ
-putSymbol w v k cap = set cap (symbolPlace w k) (getD v k 0)
-
-unfoldable pub putWord : List ℕ → ℕ → List ℕ → List ℕ
-putWord cap w v = upto (putSymbol w v) cap 16
 
 -- ---- what is made once and lent: one period of the scrambler's sequence, and a word's bits more; and the code's two tables
 

@@ -13,9 +13,10 @@ ghost use Rattle.hamming.specs.Code.{checksOf};
 ghost use Rattle.lent.specs.Lent.{byteTable};
 ghost use Rattle.sizes.specs.Sizes.{blockBits, fecBits, fecBlocks, elementBits, superElements, fecElements, infoElements, captureLength, words, blocksOf, listLength};
 ghost use Rattle.line.specs.Slots.{elementIn};
-ghost use Rattle.line.specs.Words.{symbolPlace, wordIn, fecIn};
+ghost use Rattle.line_order.specs.Order.{wordIn};
+ghost use Rattle.line.specs.Words.{fecIn};
 ghost use Rattle.editing.specs.Edit.{fecOf, blockFrom, change, crcChange, elementLocal, touches, listed, fails, spareSet, editEarlyRows, editAnswer, editLeaves};
-ghost use Rattle.editing.specs.Steps.{Accepted, onePeriod, firstElement, stretchFrom, stretchTo, newInfoBit, newBit, newElement, parityElement, remade, putWord, Lent, Passing, Turned};
+ghost use Rattle.editing.specs.Steps.{Accepted, onePeriod, firstElement, stretchFrom, stretchTo, newInfoBit, newBit, newElement, parityElement, remade, Lent, Passing, Turned};
 
 // One period of the scrambler's sequence, and a word's bits more, so that a word can be cut out anywhere.
 const PERIOD_BYTES: usize = 8208;
@@ -100,21 +101,23 @@ fn first_element(b: usize) -> usize
         + sizes::FEC_ELEMENTS * (b / sizes::CLIENT_BLOCKS % sizes::FEC_BLOCKS)
 }
 
-// Whether word w of n super frames is listed. Its element and 480 more is w and 32 times its row: filler at the start stays below 480, and
-// filler at the end is past every FEC block, so that n is not looked at.
+// Whether word w of n super frames is listed. Most words hold nothing that is touched, so that is asked before whether they are filler.
 fn is_listed(n: usize, b: usize, w: usize) -> bool
     requires { ⌜ (b < blocksOf n) × (n ≤ 8) × (w < words n) ⌝ }
     ensures { λ r. ⌜ r ≡ listed n b w ⌝ }
 {
-    let x = w + 32 * (w % 16);
-    let first = first_element(b) + sizes::LONGEST_WAIT;
-    if x < first {
+    let e = line::element_in(w);
+    let first = first_element(b);
+    if e < first {
         return false;
     }
-    if first + sizes::FEC_ELEMENTS <= x {
+    if first + sizes::FEC_ELEMENTS <= e {
         return false;
     }
-    holds_touched(b, x - first)
+    if !holds_touched(b, e - first) {
+        return false;
+    }
+    line::holds_element(n, w)
 }
 
 // No word before this one is listed: an element does not leave before its own number.
@@ -140,7 +143,7 @@ fn fails_check(t: &[u16; 4096], capture: &[u8], w: usize) -> bool
     requires { ⌜ now t ≡ byteTable ⌝ }
     ensures { λ r. ⌜ r ≡ not (eqb (checksOf (wordIn (now (capture .entry)) w)) 0) ⌝ }
 {
-    capture_words::checks_in(t, capture, w) != 0
+    line_order::checks_in(t, capture, w) != 0
 }
 
 // Whether word w is to be listed and fails a check.
@@ -176,20 +179,12 @@ fn add(x: u8, y: u8) -> u8
     (x % 2 + y % 2) % 2
 }
 
-// Where symbol k of word w stands.
-fn place(w: usize, k: usize) -> usize
-    requires { ⌜ (w < words 8) × (k < 16) ⌝ }
-    ensures { λ r. ⌜ r ≡ symbolPlace w k ⌝ }
-{
-    128 * (w / 8) + 8 * k + w % 8
-}
-
 // Bit j of word w of a capture.
 fn word_bit(capture: &[u8], w: usize, j: usize) -> u8
     requires { ⌜ (w < words 8) × (j < 128) ⌝ }
     ensures { λ r. ⌜ r ≡ bitAt (wordIn (now (capture .entry)) w) j ⌝ }
 {
-    bits::bit_at(capture, 8 * place(w, j / 8) + j % 8)
+    bits::bit_at(capture, 8 * line_order::place(w as u32, (j / 8) as u32) + j % 8)
 }
 
 // Bit i of FEC block t of a capture, descrambled.
@@ -362,7 +357,7 @@ fn parity_element(parity: &[u8], scr: &[u8; PERIOD_BYTES], e: usize) -> [u8; 16]
 {
     let l = e % sizes::SUPER_ELEMENTS;
     let at = sizes::ELEMENT_BITS * (l % sizes::FEC_ELEMENTS) - sizes::PARITY_FROM;
-    capture_words::sum(
+    copies::sum(
         copies::word_from(parity, at),
         copies::word_from(scr, sizes::ELEMENT_BITS * l % scrambler::PERIOD),
     )
@@ -392,16 +387,6 @@ fn new_word(
 
 // ---- the pass
 
-// Puts the sixteen symbols of word w to their places.
-fn put_word(capture: &mut [u8], w: usize, v: [u8; 16])
-    requires { ⌜ (w < words 8) × ((k : ℕ) → k < 16 → symbolPlace w k < length (now capture)) ⌝ }
-    ensures { λ _. ⌜ now (capture .exit) ≡ putWord (now (capture .entry)) w v ⌝ }
-{
-    for k in 0..16 {
-        capture[place(w, k)] = v[k];
-    }
-}
-
 // One turn: word w, if it is listed, is made anew and becomes entry c of the list. Returns how many are listed now.
 fn turn(
     n: usize,
@@ -421,9 +406,9 @@ fn turn(
     ensures { λ r. ⌜ Turned n b (now (bits .entry)) (now (parity .entry)) crc w c (now (capture .entry)) (now (list .entry)) (now (capture .exit)) (now (list .exit)) r ⌝ }
 {
     if is_listed(n, b, w) {
-        let old = capture_words::word_in(capture, w);
+        let old = line_order::word_in(capture, w);
         let v = new_word(b, bits, parity, scr, t, tails, crc, w, old);
-        put_word(capture, w, v);
+        line_order::put_word(capture, w, v);
         list[c] = w as u64;
         return c + 1;
     }

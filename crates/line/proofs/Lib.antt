@@ -2,6 +2,5 @@
 pub mod FecLaws
 pub mod FrameLaws
 pub mod SlotLaws
-pub mod WordLaws
 pub mod CaptureLaws
 pub mod Unique

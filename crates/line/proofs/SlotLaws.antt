@@ -10,11 +10,11 @@ use Rattle.bits.specs.Loops.{count}
 use Rattle.bits.specs.Bits.{Bits}
 use Rattle.bits.proofs.Counting.{count-ext}
 use Rattle.bits.proofs.Common.{and-left, and-right, cond-bit}
-use Rattle.sizes.specs.Sizes.{superElements, words, longestWait}
+use Rattle.sizes.specs.Sizes.{superElements, words, rows, longestWait}
 use Rattle.line.specs.Slots.{delay, slotOf, elementIn, holds, slotBit}
 
 -- a slot has its element's row, and so its delay
-slot-row : (e : ℕ) → slotOf e % 16 ≡ e % 16
+slot-row : (e : ℕ) → slotOf e % rows ≡ e % rows
 unfolding slotOf delay
 slot-row e = omega arith
 
@@ -57,7 +57,7 @@ pub record Held (N w : ℕ) : Type 0 where
   pub below : elementIn w < superElements * N
   pub back : slotOf (elementIn w) ≡ w
 
-element-row : (w : ℕ) → delay w ≤ w → elementIn w % 16 ≡ w % 16
+element-row : (w : ℕ) → delay w ≤ w → elementIn w % rows ≡ w % rows
 unfolding elementIn delay
 element-row w h = omega arith
 
@@ -120,7 +120,7 @@ before-flush N k h p = rw (lt-ltb (k - delay k) (superElements * N) (omega arith
 -- a border has whole rows before it
 border-delay : (f k : ℕ) → delay (superElements * f + k) ≡ delay k
 unfolding delay
-border-delay f k = let r : (superElements * f + k) % 16 ≡ k % 16 = omega arith in rw r
+border-delay f k = let r : (superElements * f + k) % rows ≡ k % rows = omega arith in rw r
 
 in-flush : (N k : ℕ) → 0 < N → holds N (superElements * N + k) ≡ ltb k (delay k)
 unfolding holds elementIn

@@ -1,4 +1,4 @@
--- Document 01 from client bits to the bytes of a capture, and back, each layer a function of an index.
+-- Document 01 from client bits to the code words of a capture, and back, each layer a function of an index.
 pub mod Fec
 pub mod Frames
 pub mod Slots

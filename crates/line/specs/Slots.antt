@@ -3,11 +3,11 @@
 use Prim.Native.Nat.{ℕ, _+_, _-_, _*_, _%_}
 use mathlib.Core.Bool.{Bool, cond, _&&_}
 use lib.Dec.{ltb, leb}
-use Rattle.sizes.specs.Sizes.{superElements}
+use Rattle.sizes.specs.Sizes.{superElements, rows, rowWait}
 
 -- how many words an element waits: by its row, the first row longest
 unfoldable pub delay : ℕ → ℕ
-delay e = 32 * (15 - e % 16)
+delay e = rowWait * (rows - 1 - e % rows)
 
 -- the slot of element e
 unfoldable pub slotOf : ℕ → ℕ

@@ -42,18 +42,21 @@ pub fn mbas(m0: u64, t: u64) -> u8
     ((m0 % 64 + t % 64) % 64) as u8
 }
 
+// The row that does not wait.
+const LAST_ROW: usize = sizes::ROWS - 1;
+
+// How many words an element waits, by its own row or that of its word: the one place where the delay is written out.
+fn wait(w: usize) -> usize
+    ensures { λ r. ⌜ r ≡ delay w ⌝ }
+{
+    sizes::ROW_WAIT * (LAST_ROW - w % sizes::ROWS)
+}
+
 // The slot of element e.
 pub fn slot(e: u32) -> usize
     ensures { λ r. ⌜ r ≡ slotOf e ⌝ }
 {
-    e as usize + 32 * (15 - e as usize % 16)
-}
-
-// How many words an element waits, by the row of its word.
-fn wait(w: usize) -> usize
-    ensures { λ r. ⌜ r ≡ delay w ⌝ }
-{
-    32 * (15 - w % 16)
+    e as usize + wait(e as usize)
 }
 
 // The element that word w holds, if it holds one.

@@ -20,7 +20,8 @@ ghost use Rattle.hamming.specs.Repair.{repairOf};
 ghost use Rattle.sizes.specs.Sizes.{infoBits, fecBits, fecBlocks, superBytes, infoLength, parityLength, words};
 ghost use Rattle.line.specs.Frames.{infoOf, parityOf};
 ghost use Rattle.line.specs.Slots.{slotOf, holds};
-ghost use Rattle.line.specs.Words.{wordIn, fecIn};
+ghost use Rattle.line_order.specs.Order.{wordIn};
+ghost use Rattle.line.specs.Words.{fecIn};
 ghost use Rattle.reading.specs.Read.{repaired, allZero, readAnswer, readLeaves};
 ghost use Rattle.reading.specs.Steps.{Accepted, OneIf, Tables, sequence, soughtOf, wordsTo, frameOf, followed, plainByte, mbasOff, crcOff, padOff, blockTaken, framesTo, infoIn, parityIn, lateAnswer, lateLeaves};
 
@@ -115,7 +116,7 @@ fn checks(t: &[u16; 4096], capture: &[u8], w: usize) -> u16
     requires { ⌜ now t ≡ byteTable ⌝ }
     ensures { λ r. ⌜ r ≡ checksOf (wordIn (now (capture .entry)) w) ⌝ }
 {
-    capture_words::checks_in(t, capture, w)
+    line_order::checks_in(t, capture, w)
 }
 
 // A word whose checks are c, repaired by the lent table.
@@ -180,7 +181,7 @@ fn take_word(
             seen: s.seen,
         };
     }
-    let received = capture_words::word_in(capture, w);
+    let received = line_order::word_in(capture, w);
     let r = repair_word(positions, received, c);
     let f = r.found;
     let word = r.word;
@@ -216,7 +217,7 @@ fn element(t: &[u16; 4096], positions: &[u8; 512], capture: &[u8], e: usize) -> 
 {
     let w = line::slot(e as u32);
     let c = checks(t, capture, w);
-    let word = capture_words::word_in(capture, w);
+    let word = line_order::word_in(capture, w);
     if c == 0 {
         return word;
     }

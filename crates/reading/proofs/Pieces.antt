@@ -20,7 +20,7 @@ use Rattle.hamming.specs.declared.Repaired.{Repaired}
 use Rattle.hamming.specs.Repair.{repairOf}
 use Rattle.hamming.proofs.Repairs.{none-kept}
 use Rattle.hamming.specs.Code.{checksOf}
-use Rattle.line.specs.Words.{wordIn}
+use Rattle.line_order.specs.Order.{wordIn}
 use Rattle.reading.specs.Read.{repaired}
 
 -- the first nine bits of b

@@ -17,7 +17,7 @@ use Rattle.hamming.specs.Code.{checksOf}
 use Rattle.hamming.specs.Repair.{repairOf, numberOf, foundOf}
 use Rattle.hamming.proofs.Repairs.{none-kept, found-checks}
 use Rattle.line.specs.Slots.{holds}
-use Rattle.line.specs.Words.{wordIn}
+use Rattle.line_order.specs.Order.{wordIn}
 use Rattle.reading.specs.Read.{repaired, allZero, isBeyond, isFilled, isSeen}
 use Rattle.reading.specs.Steps.{soughtOf, wordsTo}
 use Rattle.reading.specs.declared.WordTally.{WordTally}

@@ -19,7 +19,8 @@ use Rattle.line.specs.Captures.{superAllowed}
 use Rattle.line.specs.Fec.{mbasAllowed, mbasOf}
 use Rattle.line.specs.Frames.{infoOf, parityOf}
 use Rattle.line.specs.Slots.{holds}
-use Rattle.line.specs.Words.{wordIn, superIn, fecIn}
+use Rattle.line_order.specs.Order.{wordIn}
+use Rattle.line.specs.Words.{superIn, fecIn}
 
 -- word w of the capture, repaired
 unfoldable pub repaired : List ℕ → ℕ → List ℕ

@@ -110,8 +110,8 @@ fn sound(p: usize) -> [u8; 16] {
 
 // The word that holds bit p of super frame f.
 fn word_of(f: usize, p: usize) -> usize {
-    let e = 10976 * (f % 8) + p % 1306144 / 119;
-    e + 32 * (15 - e % 16)
+    let e = sizes::SUPER_ELEMENTS * (f % 8) + p % sizes::SUPER_BITS / sizes::ELEMENT_BITS;
+    line::slot(e as u32)
 }
 
 // Where bit i of FEC block t stands in its super frame.
@@ -120,7 +120,7 @@ fn place_of(t: usize, i: usize) -> usize {
 }
 
 fn last_word(n: u64) -> usize {
-    (10976 * (n % 9) + 479) as usize
+    (sizes::SUPER_ELEMENTS as u64 * (n % 9)) as usize + sizes::LONGEST_WAIT - 1
 }
 
 fn last_block(n: u64) -> usize {

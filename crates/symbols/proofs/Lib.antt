@@ -1,4 +1,3 @@
--- The laws of symbols and of their order, for every crate above.
+-- The laws of symbols, for every crate above.
 pub mod Amplitudes
-pub mod Orders
 pub mod Unique

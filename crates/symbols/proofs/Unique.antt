@@ -6,8 +6,6 @@ use Rattle.symbols.proofs.level.Reads as level
 use Rattle.symbols.proofs.pair.Reads as pair
 use Rattle.symbols.proofs.symbol_of.Reads as symbol-of
 use Rattle.symbols.proofs.byte_of.Reads as byte-of
-use Rattle.symbols.proofs.interleave.Reads as interleave
-use Rattle.symbols.proofs.deinterleave.Reads as deinterleave
 
 pub level-one : (κs : _) (a : _) (x y : _) (s t : _) → level.Post κs a x s → level.Post κs a y t → x ≡ y
 level-one κs a x y s t p q = only p q
@@ -20,9 +18,3 @@ symbol-one κs a x y s t p q = only p q
 
 pub byte-one : (κs : _) (a : _) (x y : _) (s t : _) → byte-of.Post κs a x s → byte-of.Post κs a y t → x ≡ y
 byte-one κs a x y s t p q = only p q
-
-pub interleave-one : (κs : _) (a : _) (x y : _) (s t : _) → interleave.Post κs a x s → interleave.Post κs a y t → x ≡ y
-interleave-one κs a x y s t p q = only p q
-
-pub deinterleave-one : (κs : _) (a : _) (x y : _) (s t : _) → deinterleave.Post κs a x s → deinterleave.Post κs a y t → x ≡ y
-deinterleave-one κs a x y s t p q = only p q

@@ -1,3 +1,2 @@
 -- What the contracts of `symbols` are stated in.
 pub mod Levels
-pub mod Group

@@ -1,8 +1,7 @@
-// DP-16QAM symbols: the levels of a byte, and the order of the symbols of eight words. 001 sections 11 and 11.1.
+// DP-16QAM symbols: the levels of a byte. 001 section 11.
 ghost use mathlib.Core.Path.{_≡_};
-ghost use Prim.Native.Nat.{_<_, _/_, _%_};
+ghost use Prim.Native.Nat.{_/_, _%_};
 ghost use Rattle.symbols.specs.Levels.{levelOf, pairOf, symbolOf, byteOfSymbol};
-ghost use Rattle.symbols.specs.Group.{laidGroup, takenGroup, takenWord};
 
 // The four levels of a symbol, in the order of its bits: in-phase and quadrature of X, then of Y.
 pub struct Symbol {
@@ -53,38 +52,4 @@ pub fn byte_of(s: Symbol) -> u8
     ensures { λ r. ⌜ r ≡ byteOfSymbol s ⌝ }
 {
     64 * pair(s.xi) + 16 * pair(s.xq) + 4 * pair(s.yi) + pair(s.yq)
-}
-
-// The 128 bytes of a group: byte b is symbol b / 8 of word b % 8.
-pub fn interleave(words: [[u8; 16]; 8]) -> [u8; 128]
-    ensures { λ r. ⌜ r ≡ laidGroup words ⌝ }
-{
-    let mut out = [0u8; 128];
-    for b in 0..128 {
-        out[b] = words[b % 8][b / 8];
-    }
-    out
-}
-
-// Word w of a group.
-fn taken_word(s: &[u8; 128], w: usize) -> [u8; 16]
-    requires { ⌜ w < 8 ⌝ }
-    ensures { λ r. ⌜ r ≡ takenWord (now (s .entry)) w ⌝ }
-{
-    let mut out = [0u8; 16];
-    for k in 0..16 {
-        out[k] = s[8 * k + w];
-    }
-    out
-}
-
-// The eight words of a group.
-pub fn deinterleave(s: [u8; 128]) -> [[u8; 16]; 8]
-    ensures { λ r. ⌜ r ≡ takenGroup s ⌝ }
-{
-    let mut words = [[0u8; 16]; 8];
-    for w in 0..8 {
-        words[w] = taken_word(&s, w);
-    }
-    words
 }

@@ -1,19 +1,20 @@
 -- `coder::write_groups` meets its contract: a group of eight words a turn. Assumes nothing.
 use Prim.Native.Nat.{_+_, _-_, _*_}
 use native.Mathlib.Omega.{arith}
-use lib.ListN.{getD}
 use denote.Ref.{now}
 use Rattle.bits.proofs.Lists.{Filled, filled-none, filled-block, filled-all}
 use Rattle.sizes.specs.Sizes.{captureLength, words}
 use Rattle.line.specs.Fec.{fecBit}
-use Rattle.line.specs.Words.{wordAt, symbolAt, laid, wordsOf}
+use Rattle.line_order.specs.Order.{groupSize, byteBy, laidBy, lineOrder}
+use Rattle.line.specs.Words.{wordsOf}
 use Rattle.coder.specs.Code.{captureOf}
 use Rattle.coder.proofs.Coding.{group-left}
 use Rattle.coder.proofs.write_groups.Statement.{statement}
 use Rattle.coder.proofs.write_groups.Tie as tie
 
 abbrev Inv-loop : tie.InvT-loop
-Inv-loop n m0 info parity crcs sequence table tails capture₀ g₀ g-end capture g = Filled (128 * g) (λ b. getD (wordsOf n (fecBit m0 info parity) (wordAt b)) (symbolAt b) 0) capture₀ capture
+Inv-loop n m0 info parity crcs sequence table tails capture₀ g₀ g-end capture g =
+    Filled (groupSize * g) (byteBy lineOrder (wordsOf n (fecBit m0 info parity))) capture₀ capture
 
 abbrev μ-loop : tie.MeasureT-loop
 μ-loop n m0 info parity crcs sequence table tails capture₀ g₀ g-end capture g = words n - 8 * g
@@ -62,15 +63,17 @@ loop-again c =
     let a = c .before .before .before .before .before .before .before .before .before .before .before .before .args in
     let g = c .before .before .before .before .before .before .before .loop .g in
     let W = wordsOf (a .n) (fecBit (a .m0) (now (a .info)) (now (a .parity))) in
-    filled-block (128 * g + 128 - 128 * g) (128 * (g + 1)) (c .before .before .before .before .before .before .before .loop .inv) (omega arith) (omega arith)
-    (group-left W g (128 * g + 128 - 128 * g) (c .before .before .before .before .before .group .result) (c .before .before .before .interleave .result) (c .before .before .put-group .last .0) (omega arith)
-    (c .before .before .before .before .before .group .ensures) (c .before .before .before .interleave .ensures) (c .before .before .put-group .ensures))
+    let k = groupSize * g + groupSize - groupSize * g in
+    let l = c .before .before .before .before .before in
+    filled-block k (groupSize * (g + 1)) (l .before .before .loop .inv) (omega arith) (omega arith)
+    (group-left W g k (l .group .result) (c .before .before .before .interleave .result) (c .before .before .put-group .last .0) (omega arith)
+    (l .group .ensures) (c .before .before .before .interleave .ensures) (c .before .before .put-group .ensures))
 
 same-length : tie.Need-same-length Inv-loop μ-loop
 same-length c = omega arith
 
 returns : tie.Need-returns Inv-loop μ-loop
-unfolding captureOf laid
+unfolding captureOf laidBy
 returns c = filled-all (captureLength (c .before .before .before .before .before .before .args .n)) (c .before .loop .inv) (omega arith) (omega arith)
 
 pub write-groups-spec : {M : Type 1} → statement M

@@ -1,6 +1,5 @@
 -- `demands::choice` meets its contract. Assumes nothing.
 use mathlib.Core.Path.{sym, _∙_}
-use native.Mathlib.Omega.{arith}
 use denote.Ref.{now}
 use lib.ListN.{List·getD-eq-default}
 use Rattle.demands.proofs.Hurting.{getD-any}
@@ -19,10 +18,10 @@ cast-result c = search needs
 
 returns : tie.Need-returns
 returns c = let a = c .before .before .before .before .args in
-    record { is = c .wide .ensures .same ∙ getD-any (now (a .flips)) (a .w) 0 128 (c .before .before .if1 .taken); small = c .wide .ensures .small }
+    c .wide .ensures .same ∙ getD-any (now (a .flips)) (a .w) 0 128 (c .before .before .if1 .taken)
 
 returns-2 : tie.Need-returns-2
-returns-2 c = let a = c .before .before .args in record { is = sym (List·getD-eq-default (now (a .flips)) 128 (c .if1 .left)); small = omega arith }
+returns-2 c = let a = c .before .before .args in sym (List·getD-eq-default (now (a .flips)) 128 (c .if1 .left))
 
 pub choice-spec : {M : Type 1} → statement M
 choice-spec =

@@ -1,49 +1,73 @@
--- `demands::damage` meets its contract: each byte in its place. Assumes nothing.
-use Prim.Native.Nat.{_-_}
-use mathlib.Core.Path.{refl, ap, _∙_}
-use lib.ListN.{length}
+-- `demands::damage` meets its contract: the words are taken one after the other. Assumes nothing.
+use Prim.Native.Nat.{ℕ, _-_, _≤_}
+use mathlib.Core.Path.{_≡_, refl}
+use mathlib.Core.List.{List}
+use native.Mathlib.Omega.{arith}
 use denote.Ref.{now}
-use Rattle.bits.proofs.Lists.{Filled, filled-more, filled-all, filled-here}
-use Rattle.bits.proofs.LoopLaws.{loops}
-use Rattle.demands.specs.Hurt.{hurtByte, hurtAt, hurtBytes}
+use lib.ListN.{length}
+use borrow.Author.Needs.{needs}
+use Rattle.bits.proofs.LoopLaws.{Folded, folded-none, folded-more, folded-all}
+use Rattle.line_order.specs.Order.{wordIn, putWord, replaceBy, lineOrder}
+use Rattle.capture.specs.Demand2.{hurt}
+use Rattle.demands.specs.Demands.{choiceOf}
+use Rattle.demands.specs.Hurt.{hurtBy, hurtBytes}
 use Rattle.demands.proofs.damage.Statement.{statement}
 use Rattle.demands.proofs.damage.Tie as tie
 
+-- a turn of the loop
+once : {x v out : List ℕ} {p : ℕ} (flips cap : List ℕ) (w : ℕ) → x ≡ wordIn cap w → p ≡ choiceOf flips w → v ≡ hurt x p → out ≡ putWord cap w v
+    → out ≡ replaceBy lineOrder (hurtBy flips) w cap
+unfolding replaceBy
+once flips cap w px pp pv e = rw (e, pv, pp, px)
+
 abbrev Inv-loop : tie.InvT-loop
-Inv-loop flips capture₀ b₀ b-end capture b = Filled b (hurtAt flips capture₀) capture₀ capture
+Inv-loop flips capture₀ w₀ w-end capture w =
+    Folded (replaceBy lineOrder (hurtBy flips)) capture₀ w capture × (length capture ≡ length capture₀) × (w ≤ w-end)
 
 abbrev μ-loop : tie.MeasureT-loop
-μ-loop flips capture₀ b₀ b-end capture b = length capture₀ - b
+μ-loop flips capture₀ w₀ w-end capture w = w-end - w
 
 loop-holds : tie.Need-loop-holds Inv-loop μ-loop
-loop-holds c = search loops
+loop-holds c = (folded-none, refl, omega arith)
 
-slice-read-hurt-byte : tie.Need-slice-read-hurt-byte Inv-loop μ-loop
-slice-read-hurt-byte c = search loops
+word-in-requires : tie.Need-word-in-requires Inv-loop μ-loop
+word-in-requires c κs = search needs
 
-hurt-byte-requires : tie.Need-hurt-byte-requires Inv-loop μ-loop
-hurt-byte-requires c κs = search loops
+choice-requires : tie.Need-choice-requires Inv-loop μ-loop
+choice-requires c κs = search needs
 
-slice-write-capture : tie.Need-slice-write-capture Inv-loop μ-loop
-slice-write-capture c = search loops
+hurt-word-requires : tie.Need-hurt-word-requires Inv-loop μ-loop
+hurt-word-requires c κs = search needs
 
-add-b : tie.Need-add-b Inv-loop μ-loop
-add-b c = search loops
+put-word-requires : tie.Need-put-word-requires Inv-loop μ-loop
+put-word-requires c κs = search needs
+
+add-w : tie.Need-add-w Inv-loop μ-loop
+add-w c = search needs
 
 loop-less : tie.Need-loop-less Inv-loop μ-loop
-loop-less c = search loops
+loop-less c = search needs
 
 loop-again : tie.Need-loop-again Inv-loop μ-loop
-unfolding hurtAt
-loop-again c = let i = c .before .before .before .loop .inv in
-    filled-more i (c .before .before .loop-test .taken) (c .hurt-byte .ensures ∙ ap (hurtByte (now (c .before .before .before .before .before .before .args .flips)) (c .before .before .before .loop .b)) (filled-here 0 i))
+loop-again c =
+    let p = c .before .before in
+    let h = p .before .before in
+    let t = h .before in
+    let l = t .before .before .before .before in
+    let a = l .before .before .before .args in
+    (
+      folded-more (l .loop .inv .0)
+          (once (now (a .flips)) _ (l .loop .w) (t .before .word-in .ensures) (t .choice .ensures) (h .hurt-word .ensures) (p .put-word .ensures)),
+      search needs,
+      omega arith,
+    )
 
 same-length : tie.Need-same-length Inv-loop μ-loop
-same-length c = search loops
+same-length c = c .before .loop .inv .1
 
 returns : tie.Need-returns Inv-loop μ-loop
 unfolding hurtBytes
-returns c = filled-all (length (now (c .before .before .before .before .args .capture))) (c .before .loop .inv) (c .loop-test .left) refl
+returns c = folded-all _ (c .before .loop .inv .0) (c .before .loop .inv .2) (c .loop-test .left)
 
 pub damage-spec : {M : Type 1} → statement M
 damage-spec =
@@ -52,10 +76,11 @@ damage-spec =
     Inv-loop
     μ-loop
     loop-holds
-    slice-read-hurt-byte
-    hurt-byte-requires
-    slice-write-capture
-    add-b
+    word-in-requires
+    choice-requires
+    hurt-word-requires
+    put-word-requires
+    add-w
     loop-less
     loop-again
     same-length

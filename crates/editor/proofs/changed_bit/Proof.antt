@@ -3,7 +3,8 @@ use Prim.Native.Nat.{ℕ, _+_, _-_, _%_}
 use mathlib.Core.Path.{sym, ap₂, _∙_}
 use native.Mathlib.Omega.{arith}
 use denote.Ref.{now}
-use Rattle.line.specs.Words.{wordIn, fecIn}
+use Rattle.line_order.specs.Order.{wordIn}
+use Rattle.line.specs.Words.{fecIn}
 use Rattle.editing.specs.Edit.{fecOf}
 use Rattle.editing.proofs.Changing.{change-at}
 use borrow.Author.Needs.{needs}

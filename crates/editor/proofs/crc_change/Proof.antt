@@ -8,7 +8,8 @@ use denote.Ref.{now}
 use Rattle.crc.specs.Remainder.{remFrom}
 use Rattle.crc.specs.Crc.{step, remOf, shiftN}
 use Rattle.crc.proofs.Changes.{rem-more}
-use Rattle.line.specs.Words.{wordIn, fecIn}
+use Rattle.line_order.specs.Order.{wordIn}
+use Rattle.line.specs.Words.{fecIn}
 use Rattle.sizes.specs.Sizes.{blockBits, clientBlocks}
 use Rattle.editing.specs.Edit.{fecOf, blockFrom, change}
 use Rattle.editing.proofs.Changing.{change-bits, crc-changes}

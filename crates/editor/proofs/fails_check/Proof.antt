@@ -5,8 +5,8 @@ use mathlib.Core.Bool.{not}
 use lib.Dec.{eqb}
 use denote.Ref.{now}
 use Rattle.lent.proofs.Tabled.{by-checks}
-use Rattle.line.specs.Words.{wordIn}
-use Rattle.line.proofs.WordLaws.{word-bytes}
+use Rattle.line_order.specs.Order.{wordIn}
+use Rattle.line_order.proofs.OrderLaws.{word-bytes}
 use borrow.Author.Needs.{needs}
 use Rattle.editor.proofs.fails_check.Statement.{statement}
 use Rattle.editor.proofs.fails_check.Tie as tie

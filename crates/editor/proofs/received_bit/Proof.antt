@@ -4,7 +4,7 @@ use mathlib.Core.Path.{refl, ap, ap₂, _∙_}
 use native.Mathlib.Omega.{arith}
 use denote.Ref.{now}
 use Rattle.bits.specs.Bits.{bitAt}
-use Rattle.line.specs.Words.{wordIn}
+use Rattle.line_order.specs.Order.{wordIn}
 use Rattle.line.proofs.SlotLaws.{slot-lt}
 use Rattle.sizes.specs.Sizes.{elementBits, fecBits, superElements}
 use Rattle.editing.proofs.Changing.{sequence-bit, received}

@@ -1,8 +1,6 @@
 -- `editor::turn` meets its contract. Assumes nothing.
 use mathlib.Core.Path.{sym, _∙_}
-use native.Mathlib.Omega.{arith}
 use denote.Ref.{now}
-use Rattle.line.proofs.WordLaws.{place-lt}
 use Rattle.editing.proofs.Listing.{listed-holding}
 use Rattle.editing.proofs.Passes.{turned-yes, turned-no}
 use borrow.Author.Needs.{needs}
@@ -22,9 +20,7 @@ new-word-requires c κs =
     (s .pre .0, listed-holding (s .args .n) (s .args .b) (s .args .w) (sym (l .is-listed .ensures) ∙ c .before .before .if1 .taken) .no-pad)
 
 put-word-requires : tie.Need-put-word-requires
-put-word-requires c κs =
-    let s = c .before .before .before .before .before .before .before .before .before .before in
-    (omega arith, λ k l. rw (s .pre .3) (place-lt (s .args .n) (s .args .w) k (s .pre .2) l))
+put-word-requires c κs = search needs
 
 mul-list : tie.Need-mul-list
 mul-list c = search needs

@@ -1,9 +1,9 @@
 -- `reader::checks` meets its contract. Assumes nothing.
 use mathlib.Core.Path.{_∙_}
 use denote.Ref.{now}
-use Rattle.line.specs.Words.{wordIn}
+use Rattle.line_order.specs.Order.{wordIn}
 use Rattle.lent.proofs.Tabled.{by-checks}
-use Rattle.line.proofs.WordLaws.{word-bytes}
+use Rattle.line_order.proofs.OrderLaws.{word-bytes}
 use borrow.Author.Needs.{needs}
 use Rattle.reader.proofs.checks.Statement.{statement}
 use Rattle.reader.proofs.checks.Tie as tie

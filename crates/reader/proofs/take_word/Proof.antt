@@ -11,7 +11,7 @@ use Rattle.bits.proofs.Common.{and-left, and-right}
 use Rattle.hamming.specs.Code.{checksOf}
 use Rattle.hamming.specs.Repair.{repairOf}
 use Rattle.line.specs.Slots.{holds}
-use Rattle.line.specs.Words.{wordIn}
+use Rattle.line_order.specs.Order.{wordIn}
 use Rattle.reading.specs.Steps.{soughtOf}
 use Rattle.reading.proofs.Searching.{seen-le, word-more, beyond-is, filled-is, seen-as, plain-word}
 use borrow.Author.Needs.{needs}

@@ -1,2 +1,0 @@
--- What `capture_words` promises, once.
-pub mod Unique

@@ -1,0 +1,86 @@
+-- The order of the bytes of a capture. What it is to lay words out, to take one and to put one back is said of any order; the line's
+-- order is one of them, and the only place where it is written out. Assumes nothing: these are definitions.
+use Prim.Native.Nat.{ℕ, _+_, _*_, _/_, _%_, _<_}
+use mathlib.Core.Bool.{cond}
+use mathlib.Core.Path.{_≡_}
+use mathlib.Core.List.{List}
+use lib.Dec.{eqb}
+use lib.ListN.{getD, set}
+use Rattle.bits.specs.Bits.{tabulate}
+use Rattle.bits.specs.Loops.{upto}
+use Rattle.sizes.specs.Sizes.{wordBytes, groupWords, captureLength}
+
+-- ---- any order
+
+-- symbol k of word w stands at byte `place w k`; at byte b stands symbol `symbol b` of word `word b`
+pub record Order : Type 0 where
+  pub place : ℕ → ℕ → ℕ
+  pub word : ℕ → ℕ
+  pub symbol : ℕ → ℕ
+
+-- on n words of sixteen bytes each symbol has a byte of its own, and each byte is one symbol's
+pub record OneToOne (o : Order) (n : ℕ) : Type 0 where
+  pub place-lt : (w k : ℕ) → w < n → k < wordBytes → o .place w k < wordBytes * n
+  pub word-lt : (b : ℕ) → b < wordBytes * n → o .word b < n
+  pub symbol-lt : (b : ℕ) → b < wordBytes * n → o .symbol b < wordBytes
+  pub word-at : (w k : ℕ) → w < n → k < wordBytes → o .word (o .place w k) ≡ w
+  pub symbol-at : (w k : ℕ) → w < n → k < wordBytes → o .symbol (o .place w k) ≡ k
+  pub place-back : (b : ℕ) → b < wordBytes * n → o .place (o .word b) (o .symbol b) ≡ b
+
+-- byte b of the words W laid out, and l bytes of them
+unfoldable pub byteBy : Order → (ℕ → List ℕ) → ℕ → ℕ
+byteBy o W b = getD (W (o .word b)) (o .symbol b) 0
+
+unfoldable pub laidBy : Order → ℕ → (ℕ → List ℕ) → List ℕ
+laidBy o l W = tabulate l (byteBy o W)
+
+-- symbol k of word w of a capture, and the word's sixteen bytes; zeros past the end
+unfoldable pub symbolBy : Order → List ℕ → ℕ → ℕ → ℕ
+symbolBy o cap w k = getD cap (o .place w k) 0
+
+unfoldable pub wordBy : Order → List ℕ → ℕ → List ℕ
+wordBy o cap w = tabulate wordBytes (symbolBy o cap w)
+
+-- the word v put into a capture as word w, symbol by symbol; past the end nothing changes
+unfoldable pub putSymbolBy : Order → ℕ → List ℕ → ℕ → List ℕ → List ℕ
+putSymbolBy o w v k cap = set cap (o .place w k) (getD v k 0)
+
+unfoldable pub putBy : Order → List ℕ → ℕ → List ℕ → List ℕ
+putBy o cap w v = upto (putSymbolBy o w v) cap wordBytes
+
+-- word w of a capture replaced by what f makes of it
+unfoldable pub replaceBy : Order → (ℕ → List ℕ → List ℕ) → ℕ → List ℕ → List ℕ
+replaceBy o f w cap = putBy o cap w (f w (wordBy o cap w))
+
+-- the words W with v for word w
+unfoldable pub changed : (ℕ → List ℕ) → ℕ → List ℕ → ℕ → List ℕ
+changed W w v x = cond (eqb x w) v (W x)
+
+-- ---- the line's order. "Eight words interleave: symbol k of word w stands at capture byte 128·floor(w/8) + 8·k + (w mod 8)" (document 01;
+-- 001 section 11.1)
+
+-- the bytes of eight words
+abbrev pub groupSize : ℕ
+groupSize = wordBytes * groupWords
+
+unfoldable pub symbolPlace : ℕ → ℕ → ℕ
+symbolPlace w k = groupSize * (w / groupWords) + groupWords * k + w % groupWords
+
+unfoldable pub wordAt : ℕ → ℕ
+wordAt b = groupWords * (b / groupSize) + b % groupWords
+
+unfoldable pub symbolAt : ℕ → ℕ
+symbolAt b = b % groupSize / groupWords
+
+unfoldable pub lineOrder : Order
+lineOrder = record { place = symbolPlace; word = wordAt; symbol = symbolAt }
+
+-- the capture of N super frames with the words W; word w of a capture; a capture with v for its word w
+abbrev pub laid : ℕ → (ℕ → List ℕ) → List ℕ
+laid N W = laidBy lineOrder (captureLength N) W
+
+abbrev pub wordIn : List ℕ → ℕ → List ℕ
+wordIn cap w = wordBy lineOrder cap w
+
+abbrev pub putWord : List ℕ → ℕ → List ℕ → List ℕ
+putWord cap w v = putBy lineOrder cap w v
