@@ -6,7 +6,8 @@ use Rattle.answer.specs.Outcomes.{Outcome, written}
 use Rattle.answer.specs.declared.Answer.{Answer}
 
 -- ONE ANSWER: two outcomes that meet a contract at one entry are equal
-pub only-outcome : {A B : Type 0} {says : A} {leaves : B} {r r′ : A} {out out′ : B} → Outcome says leaves r out → Outcome says leaves r′ out′ → (r ≡ r′) × (out ≡ out′)
+pub only-outcome : {A B : Type 0} {says : A} {leaves : B} {r r′ : A} {out out′ : B} → Outcome says leaves r out → Outcome says leaves r′ out′
+    → (r ≡ r′) × (out ≡ out′)
 only-outcome p q = (p .told ∙ sym (q .told), p .kept ∙ sym (q .kept))
 
 pub written-done : {B : Type 0} (a : Answer) (new old : B) → a .number ≡ allDone → written a new old ≡ new

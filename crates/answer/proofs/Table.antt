@@ -28,7 +28,12 @@ unfolding rising
 above a [] j q e x = absurd x
 above a (r ∷ rows) j q e (inl h) = omega (arith, ltb-true a (rowNumber r) (and-left (ltb a (rowNumber r)) (rising (rowNumber r) rows) e), h .number-is)
 above a (r ∷ rows) j q e (inr x) =
-    omega (arith, ltb-true a (rowNumber r) (and-left (ltb a (rowNumber r)) (rising (rowNumber r) rows) e), above (rowNumber r) rows j q (and-right (ltb a (rowNumber r)) (rising (rowNumber r) rows) e) x)
+    omega (
+      arith,
+      ltb-true a (rowNumber r) (and-left (ltb a (rowNumber r)) (rising (rowNumber r) rows) e),
+      above (rowNumber r) rows j q
+          (and-right (ltb a (rowNumber r)) (rising (rowNumber r) rows) e) x,
+    )
 
 -- what a table answers: done, and nothing applies; or the least that applies
 pub data Said (rows : List Row) (c : ℕ) : Answer → Type 0 where

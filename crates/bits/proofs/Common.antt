@@ -1,4 +1,5 @@
--- Small laws that several crates cite: one answer only, tests that hold together, or do not, a bit chosen or multiplied, a number below a bound or not, two functions
+-- Small laws that several crates cite: one answer only, tests that hold together, or do not, a bit chosen or multiplied, a number below a bound or not,
+-- two functions
 -- that one test finds equal, and an xor that is zero. Assumes nothing.
 use Prim.Native.Nat.{ℕ, zero, suc, _*_, _%_, _<_, _≤_}
 use mathlib.Core.Bool.{Bool, true, false, cond, _&&_, _||_}

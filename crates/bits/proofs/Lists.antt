@@ -88,11 +88,13 @@ filled-all {A} {i} {f} {d} {out} n e h p =
     rw (e .is, drop-of-length-le d h, q) (append-nil (tabulate n f))
 
 -- a turn that fills a whole part: a callee was lent `&mut out[a..e]` and left ys there
-pub filled-block : {A : Type 0} {a : ℕ} {f : ℕ → A} {d out : List A} (k e : ℕ) {ys : List A} → Filled a f d out → e ≡ a + k → e ≤ length d → ys ≡ tabulate k (λ j. f (a + j)) → Filled e f d (putMid a k out ys)
+pub filled-block : {A : Type 0} {a : ℕ} {f : ℕ → A} {d out : List A} (k e : ℕ) {ys : List A} → Filled a f d out → e ≡ a + k → e ≤ length d
+    → ys ≡ tabulate k (λ j. f (a + j)) → Filled e f d (putMid a k out ys)
 filled-block {A} {a} {f} {d} {out} k e {ys} i p h q =
     let front : take a out ≡ tabulate a f = rw (i .is) (take-at (tabulate a f) (drop a d) a (length-tabulate a f)) in
     let back : drop a out ≡ drop a d = rw (i .is) (drop-at (tabulate a f) (drop a d) a (length-tabulate a f)) in
-    let len : length (putMid a k out ys) ≡ length out = same-len-mid a k out ys (rw (back, q) (simp (length-tabulate, length-take, length-drop) (omega arith))) in
+    let len : length (putMid a k out ys) ≡ length out = same-len-mid a k out ys
+    (rw (back, q) (simp (length-tabulate, length-take, length-drop) (omega arith))) in
     record {
       within = h;
       len = len ∙ i .len;

@@ -88,4 +88,21 @@ first-ext p q (suc n) h = rw (h 0 (omega arith), first-ext (λ k. p (suc k)) (λ
 pub ruleset tests = (lt-ltb, le-ltb, le-leb, lt-leb, eq-eqb, ne-eqb)
 
 -- what closes every need of a loop whose invariant is one of the four records: `search loops`
-pub ruleset loops = (filled-none, filled-more, filled-all, packed-none, packed-more, packed-all, folded-none, folded-more, folded-all, passed-none, passed-more, first-here, first-end, filled-at, tests, needs)
+pub ruleset loops = (
+  filled-none,
+  filled-more,
+  filled-all,
+  packed-none,
+  packed-more,
+  packed-all,
+  folded-none,
+  folded-more,
+  folded-all,
+  passed-none,
+  passed-more,
+  first-here,
+  first-end,
+  filled-at,
+  tests,
+  needs,
+)

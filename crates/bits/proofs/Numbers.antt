@@ -1,7 +1,8 @@
 -- The laws of `num` and `digit`, over the width: digits of a number, its front and its back, a loop that takes bits in. Assumes nothing.
 use Prim.Native.Nat.{ℕ, zero, suc, _+_, _-_, _*_, _/_, _%_, _^_, _≤_, _<_}
 use mathlib.Core.Path.{_≡_, refl, sym, ap, _∙_}
-use native.Mathlib.Nat.{div-div-eq-div-mul, add-zero, add-suc, add-assoc, pow-suc, sub-zero, div-eq-of-lt, div-add-mod', lt-of-lt-of-le, zero-add, sub-self, div-one}
+use native.Mathlib.Nat.{div-div-eq-div-mul, add-zero, add-suc, add-assoc, pow-suc, sub-zero, div-eq-of-lt, div-add-mod', lt-of-lt-of-le, zero-add}
+use native.Mathlib.Nat.{sub-self, div-one}
 use native.Mathlib.Numerals.{add-one, one-add}
 use native.Mathlib.Omega.{arith}
 use lib.Pow.{high, low, pow-mono, pow-pos}

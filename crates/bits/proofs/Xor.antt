@@ -122,6 +122,7 @@ num-xor (suc w) f g a hf hg =
     )
 
 -- lists of elements: element k of the sum
-pub element-xor : (w : ℕ) (s t : List ℕ) (k : ℕ) → getD s k 0 < 2 ^ w → getD t k 0 < 2 ^ w → bitXor (getD s k 0) (getD t k 0) ≡ num w (added (bitOf w s) (bitOf w t)) (w * k)
+pub element-xor : (w : ℕ) (s t : List ℕ) (k : ℕ) → getD s k 0 < 2 ^ w → getD t k 0 < 2 ^ w
+    → bitXor (getD s k 0) (getD t k 0) ≡ num w (added (bitOf w s) (bitOf w t)) (w * k)
 element-xor w s t k hs ht =
     ap₂ bitXor (sym (num-bitOf w s k hs)) (sym (num-bitOf w t k ht)) ∙ num-xor w (bitOf w s) (bitOf w t) (w * k) (bitOf-lt w s) (bitOf-lt w t)

@@ -25,7 +25,8 @@ use Rattle.hamming.specs.declared.Repaired.{Repaired}
 use Rattle.hamming.proofs.Words.{coded-checks}
 use Rattle.hamming.proofs.Turning.{turn-long}
 use Rattle.hamming.proofs.Repairs.{none-kept, one-seen, one-repaired}
-use Rattle.sizes.specs.Sizes.{infoBits, crcBits, mbasBits, mbasFrom, parityFrom, fecBits, fecBlocks, padFrom, padBits, infoLength, parityLength, captureLength, words}
+use Rattle.sizes.specs.Sizes.{infoBits, crcBits, mbasBits, mbasFrom, parityFrom, fecBits, fecBlocks, padFrom, padBits, infoLength, parityLength}
+use Rattle.sizes.specs.Sizes.{captureLength, words}
 use Rattle.line.specs.Captures.{superAllowed}
 use Rattle.line.specs.Fec.{mbasAllowed, mbasOf, infoBit, blockCrc, fecBit}
 use Rattle.line.specs.Frames.{superOf, elementOf, infoOf, parityOf}
@@ -37,7 +38,8 @@ use Rattle.line.proofs.FrameLaws.{super-pad}
 use Rattle.line_order.proofs.OrderLaws.{length-laid, word-laid}
 use Rattle.coder.specs.Code.{captureOf}
 use Rattle.coder.proofs.Coding.{word-filler}
-use Rattle.reading.specs.Read.{repaired, allZero, isBeyond, isFilled, mbasDiffers, crcDiffers, padDiffers, isSeen, readEarlyRows, readLateRows, readAnswer, readLeaves}
+use Rattle.reading.specs.Read.{repaired, allZero, isBeyond, isFilled, mbasDiffers, crcDiffers, padDiffers, isSeen, readEarlyRows, readLateRows}
+use Rattle.reading.specs.Read.{readAnswer, readLeaves}
 use Rattle.capture.specs.Demand2.{Input, Choice, chosen, hurt, damaged, howMany, Demand2}
 use Rattle.capture.proofs.ReadLaws.{words-long, held-bits, super-read, fec-read}
 
@@ -50,11 +52,17 @@ pub record Hurt (v : List ℕ) (p : ℕ) : Type 0 where
   pub seen : not (eqb (checksOf (hurt v p)) 0) ≡ ltb p 128
 
 hurt-by : (v : List ℕ) (p : ℕ) (b : Bool) → ltb p 128 ≡ b → length v ≡ 16 → checksOf v ≡ 0
-    → (length (cond b (turn v p) v) ≡ 16) × (repairOf (cond b (turn v p) v) .word ≡ v) × (numberOf (repairOf (cond b (turn v p) v) .found) ≡ 0) × (not (eqb (checksOf (cond b (turn v p) v)) 0) ≡ b)
+    → (length (cond b (turn v p) v) ≡ 16) × (repairOf (cond b (turn v p) v) .word ≡ v) × (numberOf (repairOf (cond b (turn v p) v) .found) ≡ 0)
+    × (not (eqb (checksOf (cond b (turn v p) v)) 0) ≡ b)
 hurt-by v p true e long clean =
     let h : p < 128 = ltb-true p 128 e in
-    let r = one-repaired v long clean p h in
-    (turn-long v p ∙ long, ap (λ (x : Repaired). x .word) r, ap (λ (x : Repaired). numberOf (x .found)) r, ap not (ne-eqb (checksOf (turn v p)) 0 (one-seen v long clean p h)))
+    let r = one-repaired v long clean p h in (
+      turn-long v p ∙ long,
+      ap (λ (x : Repaired). x .word) r,
+      ap (λ (x : Repaired). numberOf (x .found)) r,
+      ap not
+          (ne-eqb (checksOf (turn v p)) 0 (one-seen v long clean p h)),
+    )
 hurt-by v p false e long clean =
     let r = none-kept v clean in
     (long, ap (λ (x : Repaired). x .word) r, ap (λ (x : Repaired). numberOf (x .found)) r, ap not (eq-eqb (checksOf v) 0 clean))

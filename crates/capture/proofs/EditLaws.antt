@@ -18,7 +18,8 @@ use Rattle.crc.proofs.Changes.{rem-ext, crc-ext, crc-change}
 use lib.Bits.{bitXor}
 use Rattle.scrambler.specs.Scrambler.{o}
 use Rattle.hamming.proofs.Words.{coded-ext}
-use Rattle.sizes.specs.Sizes.{blockBits, clientBlocks, infoBits, crcBits, mbasBits, parityBits, mbasFrom, parityFrom, parityBytes, fecBits, fecBlocks, elementBits, superElements, fecElements, infoLength, parityLength, words}
+use Rattle.sizes.specs.Sizes.{blockBits, clientBlocks, infoBits, crcBits, mbasBits, parityBits, mbasFrom, parityFrom, parityBytes, fecBits, fecBlocks}
+use Rattle.sizes.specs.Sizes.{elementBits, superElements, fecElements, infoLength, parityLength, words}
 use Rattle.line.specs.Fec.{fields, infoBit, parityBit, blockCrc, fecBit}
 use Rattle.line.specs.Frames.{superOf, elementOf}
 use Rattle.line.specs.Slots.{elementIn, holds, slotBit}
@@ -29,7 +30,8 @@ use Rattle.line.proofs.FrameLaws.{super-pad}
 use Rattle.line.proofs.SlotLaws.{held, held-bit, filler-bit}
 use Rattle.line_order.proofs.OrderLaws.{laid-ext, word-laid}
 use Rattle.coder.specs.Code.{captureOf}
-use Rattle.editing.specs.Edit.{fecOf, blockFrom, inBlock, replaced, change, crcChange, newCrc, editedBits, editedFec, touched, elementFec, elementLocal, listed, editedWord, editedCapture}
+use Rattle.editing.specs.Edit.{fecOf, blockFrom, inBlock, replaced, change, crcChange, newCrc, editedBits, editedFec, touched, elementFec, elementLocal}
+use Rattle.editing.specs.Edit.{listed, editedWord, editedCapture}
 use Rattle.editing.proofs.Listing.{holding-listed, local-lt}
 use Rattle.editing.proofs.Remaking.{element-of, local-place-lt}
 use Rattle.editing.proofs.Changing.{change-bits}
@@ -52,8 +54,20 @@ in-block b t i h = by-block (ℕ-discrete t (fecOf b))
     here a c p q r =
         by-bound c i (λ l. rw (lt-leb (blockBits * b) (infoBits * t + i) (omega (arith, whole)), lt-leb c i l))
         (λ l. by-bound (c + blockBits) i
-        (λ m. rw (le-leb (blockBits * b) (infoBits * t + i) (omega (arith, whole)), lt-ltb (infoBits * t + i) (blockBits * b + blockBits) (omega (arith, whole)), le-leb c i l, lt-ltb i (c + blockBits) m))
-        (λ m. rw (le-leb (blockBits * b) (infoBits * t + i) (omega (arith, whole)), le-ltb (infoBits * t + i) (blockBits * b + blockBits) (omega (arith, whole)), le-leb c i l, le-ltb i (c + blockBits) m)))
+        (λ m. rw (
+          le-leb (blockBits * b) (infoBits * t + i) (omega (arith, whole)),
+          lt-ltb (infoBits * t + i) (blockBits * b + blockBits)
+              (omega (arith, whole)),
+          le-leb c i l,
+          lt-ltb i (c + blockBits) m,
+        ))
+        (λ m. rw (
+          le-leb (blockBits * b) (infoBits * t + i) (omega (arith, whole)),
+          le-ltb (infoBits * t + i) (blockBits * b + blockBits)
+              (omega (arith, whole)),
+          le-leb c i l,
+          le-ltb i (c + blockBits) m,
+        )))
 
     elsewhere : (t ≡ fecOf b → ⊥) → leb (blockBits * b) (infoBits * t + i) && ltb (infoBits * t + i) (blockBits * b + blockBits) ≡ false
     elsewhere ne =
@@ -61,7 +75,8 @@ in-block b t i h = by-block (ℕ-discrete t (fecOf b))
         (λ l. let g : fecOf b < t = lt-of-le-ne l (λ e. ne (sym e)) in
         rw (le-ltb (infoBits * t + i) (blockBits * b + blockBits) (omega (arith, whole))) (and-false (leb (blockBits * b) (infoBits * t + i))))
 
-    by-block : Dec (t ≡ fecOf b) → leb (blockBits * b) (infoBits * t + i) && ltb (infoBits * t + i) (blockBits * b + blockBits) ≡ eqb t (fecOf b) && (leb (blockFrom b) i && ltb i (blockFrom b + blockBits))
+    by-block : Dec (t ≡ fecOf b) → leb (blockBits * b) (infoBits * t + i) && ltb (infoBits * t + i) (blockBits * b + blockBits) ≡ eqb t
+        (fecOf b) && (leb (blockFrom b) i && ltb i (blockFrom b + blockBits))
     by-block (yes e) = here (fecOf b) (blockFrom b) e refl refl ∙ rw (eq-eqb t (fecOf b) e)
     by-block (no ne) = elsewhere ne ∙ rw (ne-eqb t (fecOf b) ne)
 
@@ -154,7 +169,8 @@ module _ (N m0 b : ℕ) (bits parity info par : List ℕ) where
       unfolding editedBits newCrc
       here =
           fields-all (λ i. F′ t i ≡ editedBits b bits parity (F t) i)
-          (λ i h. fec-info m0 info′ par′ t i h ∙ here-info i h ∙ sym (fields-info (replaced b bits (F t)) (newCrc b bits (F t)) (λ j. F t (mbasFrom + j)) (bitAt parity) i h))
+          (λ i h. fec-info m0 info′ par′ t i h ∙ here-info i h ∙ sym (fields-info (replaced b bits (F t)) (newCrc b bits (F t)) (λ j. F t (mbasFrom + j))
+          (bitAt parity) i h))
           (λ j h. fec-crc m0 info′ par′ t j h ∙ ap (λ (x : ℕ). digit crcBits x j) here-crc ∙ digit-xor crcBits (blockCrc info t) (crcChange b bits (F t)) j
           ∙ ap (λ (x : ℕ). (x + digit crcBits (crcChange b bits (F t)) j) % 2) (sym (fec-crc m0 info par t j h))
           ∙ sym (fields-crc (replaced b bits (F t)) (newCrc b bits (F t)) (λ j. F t (mbasFrom + j)) (bitAt parity) j h))
@@ -212,10 +228,12 @@ module _ (b : ℕ) (bits parity : List ℕ) (f g : ℕ → ℕ) (same : (i : ℕ
       at-info : (h : ℕ → ℕ) (i : ℕ) → i < infoBits → fields (replaced b bits h) (newCrc b bits h) (λ j. h (mbasFrom + j)) (bitAt parity) i ≡ replaced b bits h i
       at-info h = fields-info (replaced b bits h) (newCrc b bits h) (λ j. h (mbasFrom + j)) (bitAt parity)
 
-      at-crc : (h : ℕ → ℕ) (j : ℕ) → j < crcBits → fields (replaced b bits h) (newCrc b bits h) (λ j. h (mbasFrom + j)) (bitAt parity) (infoBits + j) ≡ newCrc b bits h j
+      at-crc : (h : ℕ → ℕ) (j : ℕ) → j < crcBits → fields (replaced b bits h) (newCrc b bits h) (λ j. h (mbasFrom + j)) (bitAt parity)
+          (infoBits + j) ≡ newCrc b bits h j
       at-crc h = fields-crc (replaced b bits h) (newCrc b bits h) (λ j. h (mbasFrom + j)) (bitAt parity)
 
-      at-mbas : (h : ℕ → ℕ) (j : ℕ) → j < mbasBits → fields (replaced b bits h) (newCrc b bits h) (λ j. h (mbasFrom + j)) (bitAt parity) (mbasFrom + j) ≡ h (mbasFrom + j)
+      at-mbas : (h : ℕ → ℕ) (j : ℕ) → j < mbasBits → fields (replaced b bits h) (newCrc b bits h) (λ j. h (mbasFrom + j)) (bitAt parity) (mbasFrom + j) ≡ h
+          (mbasFrom + j)
       at-mbas h = fields-mbas (replaced b bits h) (newCrc b bits h) (λ j. h (mbasFrom + j)) (bitAt parity)
 
       at-parity : (h : ℕ → ℕ) (j : ℕ) → fields (replaced b bits h) (newCrc b bits h) (λ j. h (mbasFrom + j)) (bitAt parity) (parityFrom + j) ≡ bitAt parity j
@@ -255,21 +273,27 @@ untouched b bits parity f =
     or-last false true = refl
     or-last false false = refl
 
-    in-crc : (j : ℕ) → j < crcBits → inBlock b (infoBits + j) || (leb infoBits (infoBits + j) && ltb (infoBits + j) mbasFrom) || leb parityFrom (infoBits + j) ≡ true
-    in-crc j h = rw (le-leb infoBits (infoBits + j) (omega arith), lt-ltb (infoBits + j) mbasFrom (omega arith)) (or-true (inBlock b (infoBits + j)) (leb parityFrom (infoBits + j)))
+    in-crc : (j : ℕ) → j < crcBits → inBlock b (infoBits + j) || (leb infoBits (infoBits + j) && ltb (infoBits + j) mbasFrom) || leb parityFrom
+        (infoBits + j) ≡ true
+    in-crc j h = rw (le-leb infoBits (infoBits + j) (omega arith), lt-ltb (infoBits + j) mbasFrom (omega arith))
+        (or-true (inBlock b (infoBits + j)) (leb parityFrom (infoBits + j)))
 
-    in-parity : (j : ℕ) → inBlock b (parityFrom + j) || (leb infoBits (parityFrom + j) && ltb (parityFrom + j) mbasFrom) || leb parityFrom (parityFrom + j) ≡ true
-    in-parity j = rw (le-leb parityFrom (parityFrom + j) (omega arith)) (or-last (inBlock b (parityFrom + j)) (leb infoBits (parityFrom + j) && ltb (parityFrom + j) mbasFrom))
+    in-parity : (j : ℕ) → inBlock b (parityFrom + j) || (leb infoBits (parityFrom + j) && ltb (parityFrom + j) mbasFrom) || leb parityFrom
+        (parityFrom + j) ≡ true
+    in-parity j = rw (le-leb parityFrom (parityFrom + j) (omega arith))
+        (or-last (inBlock b (parityFrom + j)) (leb infoBits (parityFrom + j) && ltb (parityFrom + j) mbasFrom))
 
 -- ---- words whose elements have equal bits are equal
 
-pad-bit : (F : ℕ → ℕ → ℕ) (e i : ℕ) → fecElements * fecBlocks ≤ e % superElements → elementOf (superOf F) e i ≡ (0 + o (elementBits * (e % superElements) + i)) % 2
+pad-bit : (F : ℕ → ℕ → ℕ) (e i : ℕ) → fecElements * fecBlocks ≤ e % superElements
+    → elementOf (superOf F) e i ≡ (0 + o (elementBits * (e % superElements) + i)) % 2
 unfolding elementOf
 pad-bit F e i h = rw (super-pad F (e / superElements) (elementBits * (e % superElements) + i) (omega arith))
 
 module _ (N : ℕ) (F G : ℕ → ℕ → ℕ) (w : ℕ)
     (same : holds N w ≡ true → elementIn w % superElements < fecElements * fecBlocks → (i : ℕ) → i < elementBits
-    → F (elementFec (elementIn w)) (elementBits * elementLocal (elementIn w) + i) ≡ G (elementFec (elementIn w)) (elementBits * elementLocal (elementIn w) + i)) where
+    → F (elementFec (elementIn w)) (elementBits * elementLocal (elementIn w) + i) ≡ G (elementFec (elementIn w))
+    (elementBits * elementLocal (elementIn w) + i)) where
   held-same : holds N w ≡ true → (i : ℕ) → i < elementBits → elementOf (superOf F) (elementIn w) i ≡ elementOf (superOf G) (elementIn w) i
   held-same h i l =
       let e = elementIn w in
@@ -311,7 +335,9 @@ module _ (N m0 b : ℕ) (bits parity info par : List ℕ) where
       words-ext N (editedFec b bits parity (fecIn (wordIn cap))) new w
       (λ p m i l. let e = elementIn w in
       let ht = fec-lt N e (held N w p .below) m in
-      edited-fec-ext b bits parity (fecIn (wordIn cap)) old (elementFec e) (λ j k. fec-read N old (wordIn cap) coded-words (λ t. fec-bits m0 info par t) (elementFec e) j ht k) (elementBits * elementLocal e + i) (local-place-lt e i l)
+      edited-fec-ext b bits parity (fecIn (wordIn cap)) old (elementFec e)
+      (λ j k. fec-read N old (wordIn cap) coded-words (λ t. fec-bits m0 info par t) (elementFec e) j ht k) (elementBits * elementLocal e + i)
+      (local-place-lt e i l)
       ∙ sym (fec-edit N m0 b bits parity info par (elementFec e) (elementBits * elementLocal e + i) ht (local-place-lt e i l)))
 
   -- a word that is not listed has no touched bit
@@ -330,15 +356,19 @@ module _ (N m0 b : ℕ) (bits parity info par : List ℕ) where
       let k = elementBits * elementLocal e + i in
       sym (fec-edit N m0 b bits parity info par t k (fec-lt N e (held N w p .below) m) (local-place-lt e i l) ∙ by w n p m i l (ℕ-discrete t (fecOf b))))
     where
-      by : (w : ℕ) → listed N b w ≡ false → holds N w ≡ true → elementIn w % superElements < fecElements * fecBlocks → (i : ℕ) → i < elementBits → Dec (elementFec (elementIn w) ≡ fecOf b)
-          → cond (eqb (elementFec (elementIn w)) (fecOf b)) (editedBits b bits parity (old (elementFec (elementIn w)))) (old (elementFec (elementIn w))) (elementBits * elementLocal (elementIn w) + i)
+      by : (w : ℕ) → listed N b w ≡ false → holds N w ≡ true → elementIn w % superElements < fecElements * fecBlocks → (i : ℕ) → i < elementBits
+          → Dec (elementFec (elementIn w) ≡ fecOf b)
+          → cond (eqb (elementFec (elementIn w)) (fecOf b)) (editedBits b bits parity (old (elementFec (elementIn w)))) (old (elementFec (elementIn w)))
+          (elementBits * elementLocal (elementIn w) + i)
           ≡ old (elementFec (elementIn w)) (elementBits * elementLocal (elementIn w) + i)
       by w n p m i l (yes q) =
           rw (eq-eqb (elementFec (elementIn w)) (fecOf b) q)
-          (untouched b bits parity (old (elementFec (elementIn w))) (elementBits * elementLocal (elementIn w) + i) (local-place-lt (elementIn w) i l) (kept-bit w n p m q i l _ refl))
+          (untouched b bits parity (old (elementFec (elementIn w))) (elementBits * elementLocal (elementIn w) + i) (local-place-lt (elementIn w) i l)
+          (kept-bit w n p m q i l _ refl))
       by w n p m i l (no q) = rw (ne-eqb (elementFec (elementIn w)) (fecOf b) q)
 
-  word-by : (w : ℕ) → w < words N → (t : Bool) → listed N b w ≡ t → cond t (wordsOf N (editedFec b bits parity (fecIn (wordIn cap))) w) (wordIn cap w) ≡ wordsOf N new w
+  word-by : (w : ℕ) → w < words N → (t : Bool) → listed N b w ≡ t → cond t (wordsOf N (editedFec b bits parity (fecIn (wordIn cap))) w)
+      (wordIn cap w) ≡ wordsOf N new w
   word-by w h true e = listed-word w h
   word-by w h false e = coded-words w h ∙ kept-word w e
 

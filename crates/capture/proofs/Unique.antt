@@ -1,4 +1,5 @@
--- Each public contract has one answer: two runs that meet it at one entry answer the same and leave the same bytes. `Post` is the contract's own `ensures`, so a weaker contract would not
+-- Each public contract has one answer: two runs that meet it at one entry answer the same and leave the same bytes. `Post` is the contract's own
+-- `ensures`, so a weaker contract would not
 -- pass here. Assumes nothing.
 use mathlib.Core.Path.{_≡_}
 use Prim.Native.Nat.{ℕ}

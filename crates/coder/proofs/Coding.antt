@@ -9,7 +9,7 @@ use Rattle.bits.specs.Bits.{tabulate, bitAt, pack, from, added}
 use Rattle.bits.proofs.Lists.{length-tabulate, is-table}
 use Rattle.bits.proofs.Packing.{bitOf-lt, bitOf-packs}
 use Rattle.matrix.specs.Sums.{tailTable}
-use Rattle.lent.specs.Lent.{byteTable, wordBy}
+use Rattle.lent.specs.Steps.{byteTable, wordBy}
 use Rattle.hamming.proofs.Words.{coded-ext, coded-zero}
 use Rattle.lent.proofs.Tabled.{by-word}
 use Rattle.scrambler.specs.Scrambler.{o}
@@ -36,7 +36,8 @@ mask-bit : (sequence mask : List ℕ) (e i : ℕ) → sequence ≡ pack superByt
     → i < elementBits → bitAt mask i ≡ o (elementBits * (e % superElements) + i)
 mask-bit sequence mask e i p q h =
     ap (λ (s : List ℕ). bitAt s i) q
-    ∙ bitOf-packs 8 16 (from (bitAt sequence) (elementBits * (e % superElements))) i (λ j. bitOf-lt 8 sequence (elementBits * (e % superElements) + j)) (omega arith)
+    ∙ bitOf-packs 8 16 (from (bitAt sequence) (elementBits * (e % superElements))) i (λ j. bitOf-lt 8 sequence (elementBits * (e % superElements) + j))
+    (omega arith)
     ∙ ap (λ (s : List ℕ). bitAt s (elementBits * (e % superElements) + i)) p
     ∙ bitOf-packs 8 superBytes o (elementBits * (e % superElements) + i) o-lt (omega arith)
 
@@ -61,4 +62,5 @@ pub group-left : (W : ℕ → List ℕ) (g k : ℕ) (ws : List (List ℕ)) (byte
     → bytes ≡ laidGroup ws → ys ≡ tabulate groupSize (entry bytes) → ys ≡ tabulate k (from (byteBy lineOrder W) (groupSize * g))
 group-left W g k ws bytes ys p pw pb py =
     let e : bytes ≡ tabulate groupSize (from (byteBy lineOrder W) (groupSize * g)) = pb ∙ ap laidGroup pw ∙ group-laid W g in
-    rw p (py ∙ sym (is-table 0 groupSize (entry bytes) bytes (ap length e ∙ length-tabulate groupSize (from (byteBy lineOrder W) (groupSize * g))) (λ j l. refl)) ∙ e)
+    rw p (py ∙ sym (is-table 0 groupSize (entry bytes) bytes (ap length e ∙ length-tabulate groupSize (from (byteBy lineOrder W) (groupSize * g)))
+    (λ j l. refl)) ∙ e)

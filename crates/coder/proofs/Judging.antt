@@ -39,4 +39,10 @@ module _ (N m0 : ℕ) (info par cap : List ℕ) where
   unfolding codeRows Passed RowPassed NoFault
   granted e z =
       let p = passed rows (done (words N)) (code-rise N m0 (length info) (length par) (length cap)) (e ∙ in-turn rows (words N)) z in
-      record { few = frames-in N m0 (p .0) .few; information = right-length (p .1 .0 .0); parity = right-length (p .1 .0 .1 .0); capture = right-length (p .1 .0 .1 .1 .0) }
+      record {
+        few = frames-in N m0 (p .0) .few;
+        information = right-length (p .1 .0 .0);
+        parity = right-length (p .1 .0 .1 .0);
+        capture = right-length
+            (p .1 .0 .1 .1 .0);
+      }

@@ -41,7 +41,8 @@ plain-fec F e i h l =
 -- ---- the three kinds of elements of FEC block t
 
 module _ (m0 : ℕ) (info par : List ℕ) (t : ℕ) where
-  pub held-info : (m i : ℕ) → m < infoElements → i < elementBits → fecBit m0 info par t (elementBits * m + i) ≡ from (bitAt info) (infoBits * t + elementBits * m) i
+  pub held-info : (m i : ℕ) → m < infoElements → i < elementBits → fecBit m0 info par t (elementBits * m + i) ≡ from (bitAt info)
+      (infoBits * t + elementBits * m) i
   unfolding infoBit
   held-info m i h l = fec-info m0 info par t (elementBits * m + i) (omega arith) ∙ ap (bitAt info) (sym (add-assoc (infoBits * t) (elementBits * m) i))
 
@@ -66,7 +67,8 @@ module _ (m0 : ℕ) (info par : List ℕ) (t : ℕ) where
       let q : 38 + (i - 38) ≡ i = omega arith in
       ap (fecBit m0 info par t) p ∙ after (i - 38) ∙ ap tail q))
 
-  pub held-parity : (m i : ℕ) → infoElements < m → fecBit m0 info par t (elementBits * m + i) ≡ from (bitAt par) (parityBits * t + (elementBits * (m - infoElements) - 38)) i
+  pub held-parity : (m i : ℕ) → infoElements < m → fecBit m0 info par t (elementBits * m + i) ≡ from (bitAt par)
+      (parityBits * t + (elementBits * (m - infoElements) - 38)) i
   unfolding parityBit
   held-parity m i h =
       let p : elementBits * m + i ≡ parityFrom + (elementBits * (m - infoElements) - 38 + i) = omega arith in
@@ -99,11 +101,13 @@ module _ (m0 : ℕ) (info par r : List ℕ) (e : ℕ) (no-pad : e % superElement
   pub plain-tail : (crc mbas : ℕ) → local ≡ infoElements → crc ≡ blockCrc info block → mbas ≡ mbasOf m0 block
       → r ≡ pack 16 (tailBit crc mbas (from (bitAt par) (parityBits * block))) → Agree (bitAt r) (plainBit F e)
   plain-tail crc mbas h pc pm p =
-      agree-packed r (tailBit crc mbas (from (bitAt par) (parityBits * block))) (plainBit F e) (tail-bits crc mbas (from (bitAt par) (parityBits * block)) (from-bits par (parityBits * block))) p
+      agree-packed r (tailBit crc mbas (from (bitAt par) (parityBits * block))) (plainBit F e)
+      (tail-bits crc mbas (from (bitAt par) (parityBits * block)) (from-bits par (parityBits * block))) p
       (λ i l. let q : elementBits * local + i ≡ infoBits + i = omega arith in
       rw (pc, pm) (sym (plain-fec F e i no-pad l ∙ ap (F block) q ∙ held-tail m0 info par block i l)))
 
-  pub plain-parity : infoElements < local → r ≡ pack 16 (from (bitAt par) (parityBits * block + (elementBits * (local - infoElements) - 38))) → Agree (bitAt r) (plainBit F e)
+  pub plain-parity : infoElements < local → r ≡ pack 16 (from (bitAt par) (parityBits * block + (elementBits * (local - infoElements) - 38)))
+      → Agree (bitAt r) (plainBit F e)
   plain-parity h p =
       agree-packed r (from (bitAt par) (parityBits * block + (elementBits * (local - infoElements) - 38))) (plainBit F e)
       (from-bits par (parityBits * block + (elementBits * (local - infoElements) - 38))) p
@@ -112,12 +116,14 @@ module _ (m0 : ℕ) (info par r : List ℕ) (e : ℕ) (no-pad : e % superElement
 -- ---- the CRC of a block's part of the information
 
 part-bytes : (s : List ℕ) (a n : ℕ) → Bytes s → Bytes (take n (drop a s))
-part-bytes s a n h k = by-bound n k (λ l. rw (getD-take n (drop a s) k 0 l, getD-drop a s k 0) (h (a + k))) (λ l. rw (List·getD-eq-default (take n (drop a s)) 0 (short l)) (omega arith))
+part-bytes s a n h k = by-bound n k (λ l. rw (getD-take n (drop a s) k 0 l, getD-drop a s k 0) (h (a + k)))
+    (λ l. rw (List·getD-eq-default (take n (drop a s)) 0 (short l)) (omega arith))
   where
     short : n ≤ k → length (take n (drop a s)) ≤ k
     short l = simp length-take (omega arith)
 
-pub block-part : (table info : List ℕ) (t n : ℕ) → table ≡ entries → Bytes info → infoBytes * (t + 1) ≤ length info → n ≡ infoBytes → crcBy table (take n (drop (infoBytes * t) info)) ≡ blockCrc info t
+pub block-part : (table info : List ℕ) (t n : ℕ) → table ≡ entries → Bytes info → infoBytes * (t + 1) ≤ length info → n ≡ infoBytes
+    → crcBy table (take n (drop (infoBytes * t) info)) ≡ blockCrc info t
 unfolding blockCrc infoBit
 block-part table info t n e b h p =
     let part = take n (drop (infoBytes * t) info) in

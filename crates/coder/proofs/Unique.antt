@@ -1,4 +1,5 @@
--- The contract of `code` has one answer: two runs that meet it at one entry answer the same and leave the same capture. `Post` is the contract's own `ensures`, so a weaker contract would not
+-- The contract of `code` has one answer: two runs that meet it at one entry answer the same and leave the same capture. `Post` is the contract's own
+-- `ensures`, so a weaker contract would not
 -- pass here. Assumes nothing.
 use mathlib.Core.Path.{_≡_}
 use denote.Ref.{now}

@@ -7,7 +7,7 @@ use lib.Dec.{ltb}
 use lib.ListN.{getD, length}
 use Rattle.bits.specs.Bits.{digit, pack}
 use Rattle.matrix.specs.Sums.{tailTable}
-use Rattle.lent.specs.Lent.{byteTable}
+use Rattle.lent.specs.Steps.{byteTable}
 use Rattle.scrambler.specs.Scrambler.{o}
 use Rattle.sizes.specs.Sizes.{crcBits, fecBlocks, elementBits, superElements, superBytes, infoLength, parityLength, captureLength}
 use Rattle.line.specs.Fec.{blockCrc}

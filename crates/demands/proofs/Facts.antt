@@ -24,7 +24,7 @@ use Rattle.capture.specs.Demand3.{EditInput, EditsAsCoded}
 use Rattle.capture.proofs.Demand2.{demand-2}
 use Rattle.capture.proofs.Demand3.{demand-3}
 use Rattle.demands.specs.Demands.{choiceOf}
-use Rattle.demands.specs.Hurt.{hurtBytes}
+use Rattle.demands.specs.Steps.{hurtBytes}
 use Rattle.demands.proofs.Hurting.{hurt-bytes}
 
 -- ---- coding is granted, and leaves the capture

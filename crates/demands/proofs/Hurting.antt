@@ -9,7 +9,7 @@ use Rattle.sizes.specs.Sizes.{wordBytes, captureLength, words}
 use Rattle.line_order.proofs.OrderLaws.{each-laid}
 use Rattle.capture.specs.Demand2.{damaged}
 use Rattle.demands.specs.Demands.{choiceOf}
-use Rattle.demands.specs.Hurt.{hurtBy, hurtBytes}
+use Rattle.demands.specs.Steps.{hurtBy, hurtBytes}
 
 -- the damage, a word at a time
 pub hurt-bytes : (N : ℕ) (flips cap : List ℕ) → length cap ≡ captureLength N → hurtBytes flips cap ≡ damaged N (choiceOf flips) cap

@@ -1,3 +1,3 @@
 -- The customer's demands, as contracts of a client.
 pub mod Demands
-pub mod Hurt
+pub mod Steps

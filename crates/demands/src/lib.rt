@@ -15,7 +15,7 @@ ghost use Rattle.editing.specs.Edit.{listed, edited, editRows};
 ghost use Rattle.mapping.specs.RoundTrip.{mapUnmapAnswer, mapUnmapLeaves};
 ghost use Rattle.capture.specs.Demand2.{hurt};
 ghost use Rattle.demands.specs.Demands.{choiceOf, ReadsDamaged, EditsCoded};
-ghost use Rattle.demands.specs.Hurt.{hurtBytes};
+ghost use Rattle.demands.specs.Steps.{hurtBytes};
 
 // Demand 1 of coding.
 pub fn code(n: u64, m0: u64, info: &[u8], parity: &[u8], capture: &mut [u8]) -> Answer

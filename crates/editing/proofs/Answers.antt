@@ -114,9 +114,11 @@ module _ (N b : ℕ) (bits parity cap list : List ℕ) where
 
     module _ {r : Answer} {w : ℕ} (found : w ≡ first (fails N b cap) (words N)) where
       -- at the first word that fails
-      pub nine-outcome : w < words N → r ≡ refused listedFails w → Outcome (editAnswer N b bits parity cap list) (editLeaves N b bits parity cap list) r (cap, list)
+      pub nine-outcome : w < words N → r ≡ refused listedFails w → Outcome (editAnswer N b bits parity cap list) (editLeaves N b bits parity cap list) r
+          (cap, list)
       unfolding editLeaves editLateRows inTurn rowThen
-      nine-outcome l q = meets-refused (edited N b bits parity cap list) (q ∙ sym (late ∙ rw (← found, lt-ltb w (words N) l))) (λ z. nine (sym (ap (λ (x : Answer). x .number) q) ∙ z))
+      nine-outcome l q = meets-refused (edited N b bits parity cap list) (q ∙ sym (late ∙ rw (← found, lt-ltb w (words N) l)))
+          (λ z. nine (sym (ap (λ (x : Answer). x .number) q) ∙ z))
         where
           nine : listedFails ≡ allDone → ⊥
           nine e = omega arith

@@ -101,7 +101,8 @@ own-of : (b m : ℕ) → m < fecElements → touches b (elementBits * m) element
 unfolding listedCount
 own-of b m h t = by (decLt m infoElements) (decLt m (blockFrom b / elementBits)) (decLt ((blockFrom b + 256) / elementBits) m)
   where
-    by : Dec (m < infoElements) → Dec (m < blockFrom b / elementBits) → Dec ((blockFrom b + 256) / elementBits < m) → In (own b) (138 + suc ((blockFrom b + 256) / elementBits - blockFrom b / elementBits)) m
+    by : Dec (m < infoElements) → Dec (m < blockFrom b / elementBits) → Dec ((blockFrom b + 256) / elementBits < m)
+        → In (own b) (138 + suc ((blockFrom b + 256) / elementBits - blockFrom b / elementBits)) m
     by (no l) x y =
         record { index = m - infoElements; within = omega arith; is = sym (own-tail b (m - infoElements) (omega arith) ∙ (omega arith)) }
     by (yes l) (yes x) y = absurd (clash t (element-before b m l x))

@@ -65,7 +65,8 @@ module _ (N b : ℕ) (bits parity cap : List ℕ) where
   unfolding mixed
   mixed-other w x n = by (ltb x w) refl
     where
-      by : (t : Bool) → ltb x w ≡ t → cond t (editedWord N b bits parity cap x) (wordIn cap x) ≡ cond (ltb x (suc w)) (editedWord N b bits parity cap x) (wordIn cap x)
+      by : (t : Bool) → ltb x w ≡ t → cond t (editedWord N b bits parity cap x) (wordIn cap x) ≡ cond (ltb x (suc w)) (editedWord N b bits parity cap x)
+          (wordIn cap x)
       by true e = rw (lt-ltb x (suc w) (omega (arith, ltb-true x w e)))
       by false e = rw (le-ltb x (suc w) (past (ltb-false x w e)))
         where
@@ -99,7 +100,8 @@ listing-long N b list w e =
     rw (length-append (picked (listed N b) w) (drop (count (listed N b) w) list), length-picked (listed N b) w, length-drop (count (listed N b) w) list)
     (omega (arith, listed-few N b w))
 
-listing-set : (N b : ℕ) (list : List ℕ) (w : ℕ) → length list ≡ listLength → listed N b w ≡ true → set (listing N b list w) (count (listed N b) w) w ≡ listing N b list (suc w)
+listing-set : (N b : ℕ) (list : List ℕ) (w : ℕ) → length list ≡ listLength → listed N b w ≡ true
+    → set (listing N b list w) (count (listed N b) w) w ≡ listing N b list (suc w)
 unfolding listing
 listing-set N b list w e h = picked-set (listed N b) w list h (omega (arith, listed-few N b w))
 
@@ -128,19 +130,22 @@ module _ (N b : ℕ) (bits parity cap₀ list₀ : List ℕ) where
   pub passing-few : {w c : ℕ} {cap list : List ℕ} → Passing N b bits parity cap₀ list₀ w cap list c → c ≤ 142
   passing-few {w} p = rw (p .counted) (listed-few N b w)
 
-  turn-yes : (w crc c : ℕ) (cap list : List ℕ) → listed N b w ≡ true → Passing N b bits parity cap₀ list₀ w cap list c → w < words N → length list₀ ≡ listLength → crc ≡ crcChange b bits (fecIn (wordIn cap₀) (fecOf b))
+  turn-yes : (w crc c : ℕ) (cap list : List ℕ) → listed N b w ≡ true → Passing N b bits parity cap₀ list₀ w cap list c → w < words N
+      → length list₀ ≡ listLength → crc ≡ crcChange b bits (fecIn (wordIn cap₀) (fecOf b))
       → Passing N b bits parity cap₀ list₀ (suc w) (putWord cap w (remade b bits parity crc w (wordIn cap w))) (set list c w) (c + 1)
   turn-yes w crc c cap list t p h e q =
       let old : wordIn cap w ≡ wordIn cap₀ w = rw (p .capture) (mixed-here N b bits parity cap₀ w h) in
       let s = laid N (mixed N b bits parity cap₀ w) in
       let v = remade b bits parity crc w (wordIn cap w) in
       record {
-        capture = ap (λ (x : List ℕ). putWord x w v) (p .capture) ∙ mixed-put N b bits parity cap₀ w v h (word-made N b bits parity cap₀ w crc (wordIn cap w) t q old);
+        capture = ap (λ (x : List ℕ). putWord x w v) (p .capture) ∙ mixed-put N b bits parity cap₀ w v h
+            (word-made N b bits parity cap₀ w crc (wordIn cap w) t q old);
         entries = ap₂ (λ (x : List ℕ) (i : ℕ). set x i w) (p .entries) (p .counted) ∙ listing-set N b list₀ w e t;
         counted = ap (λ (i : ℕ). i + 1) (p .counted) ∙ add-one (count (listed N b) w) ∙ sym (count-yes (listed N b) w t);
       }
 
-  turn-no : (w c : ℕ) (cap list : List ℕ) → listed N b w ≡ false → Passing N b bits parity cap₀ list₀ w cap list c → Passing N b bits parity cap₀ list₀ (suc w) cap list c
+  turn-no : (w c : ℕ) (cap list : List ℕ) → listed N b w ≡ false → Passing N b bits parity cap₀ list₀ w cap list c
+      → Passing N b bits parity cap₀ list₀ (suc w) cap list c
   turn-no w c cap list t p = record {
     capture = p .capture ∙ mixed-skip N b bits parity cap₀ w t;
     entries = p .entries ∙ listing-skip N b list₀ w t;
@@ -148,7 +153,8 @@ module _ (N b : ℕ) (bits parity cap₀ list₀ : List ℕ) where
   }
 
   -- words that are not listed need no turn
-  pub passing-skip : {w c : ℕ} {cap list : List ℕ} (v : ℕ) → w ≤ v → ((x : ℕ) → w ≤ x → x < v → listed N b x ≡ false) → Passing N b bits parity cap₀ list₀ w cap list c → Passing N b bits parity cap₀ list₀ v cap list c
+  pub passing-skip : {w c : ℕ} {cap list : List ℕ} (v : ℕ) → w ≤ v → ((x : ℕ) → w ≤ x → x < v → listed N b x ≡ false)
+      → Passing N b bits parity cap₀ list₀ w cap list c → Passing N b bits parity cap₀ list₀ v cap list c
   passing-skip {w} {c} {cap} {list} v h n p =
       let e : v ≡ w + (v - w) = omega arith in
       rw e (on (v - w) (λ x l m. n x l (omega arith)))
@@ -158,12 +164,15 @@ module _ (N b : ℕ) (bits parity cap₀ list₀ : List ℕ) where
       on (suc k) m = rw (add-suc w k) (turn-no (w + k) c cap list (m (w + k) (omega arith) (omega arith)) (on k (λ x l q. m x l (omega arith))))
 
   -- a turn of the loop
-  pub passing-turn : {w crc c c′ : ℕ} {cap list cap′ list′ : List ℕ} → Passing N b bits parity cap₀ list₀ w cap list c → Turned N b bits parity crc w c cap list cap′ list′ c′
-      → w < words N → length list₀ ≡ listLength → crc ≡ crcChange b bits (fecIn (wordIn cap₀) (fecOf b)) → Passing N b bits parity cap₀ list₀ (w + 1) cap′ list′ c′
+  pub passing-turn : {w crc c c′ : ℕ} {cap list cap′ list′ : List ℕ} → Passing N b bits parity cap₀ list₀ w cap list c
+      → Turned N b bits parity crc w c cap list cap′ list′ c′
+      → w < words N → length list₀ ≡ listLength → crc ≡ crcChange b bits (fecIn (wordIn cap₀) (fecOf b))
+      → Passing N b bits parity cap₀ list₀ (w + 1) cap′ list′ c′
   passing-turn {w} {crc} {c} {c′} {cap} {list} {cap′} {list′} p t h e q =
       rw (add-one w, t .capture, t .entries, t .counted) (by (listed N b w) refl)
     where
-      by : (x : Bool) → listed N b w ≡ x → Passing N b bits parity cap₀ list₀ (suc w) (cond x (putWord cap w (remade b bits parity crc w (wordIn cap w))) cap) (cond x (set list c w) list) (cond x (c + 1) c)
+      by : (x : Bool) → listed N b w ≡ x → Passing N b bits parity cap₀ list₀ (suc w)
+          (cond x (putWord cap w (remade b bits parity crc w (wordIn cap w))) cap) (cond x (set list c w) list) (cond x (c + 1) c)
       by true i = turn-yes w crc c cap list i p h e q
       by false i = turn-no w c cap list i p
 
@@ -173,7 +182,8 @@ module _ (N b : ℕ) (bits parity cap₀ list₀ : List ℕ) where
   passing-capture p =
       p .capture ∙ laid-ext N (mixed N b bits parity cap₀ (words N)) (editedWord N b bits parity cap₀) (λ x l. mixed-done N b bits parity cap₀ (words N) x l)
 
-  pub passing-list : {c : ℕ} {cap list : List ℕ} → Passing N b bits parity cap₀ list₀ (words N) cap list c → list ≡ listOf N b ++ drop (count (listed N b) (words N)) list₀
+  pub passing-list : {c : ℕ} {cap list : List ℕ} → Passing N b bits parity cap₀ list₀ (words N) cap list c
+      → list ≡ listOf N b ++ drop (count (listed N b) (words N)) list₀
   unfolding listOf listing
   passing-list p = p .entries
 

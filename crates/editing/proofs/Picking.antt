@@ -72,14 +72,16 @@ picked-entry p (suc n) i h = by (p n) refl h (picked-entry p n i)
         rw (picked-yes p n e, getD-at (picked p n) n [] 0 i (length-picked p n ∙ sym q))
         (record { below = omega arith; picks = e; rank = sym q })
 
-    by : (x : Bool) → p n ≡ x → i < cond x (suc (count p n)) (count p n) → (i < count p n → Ranked p n i (getD (picked p n) i 0)) → Ranked p (suc n) i (getD (picked p (suc n)) i 0)
+    by : (x : Bool) → p n ≡ x → i < cond x (suc (count p n)) (count p n) → (i < count p n → Ranked p n i (getD (picked p n) i 0))
+        → Ranked p (suc n) i (getD (picked p (suc n)) i 0)
     by true e l r = ⊎-elim (λ q. last e (omega arith)) (λ m. early e (le-of-suc-le-suc m) (r (le-of-suc-le-suc m))) (eq-or-lt-of-le l)
     by false e l r = rw (picked-no p n e) (more (r l))
 
 -- they rise
 pub picked-rises : (p : ℕ → Bool) (n i j : ℕ) → i < j → j < count p n → getD (picked p n) i 0 < getD (picked p n) j 0
 picked-rises p n i j h l =
-    by (getD (picked p n) i 0) (getD (picked p n) j 0) (picked-entry p n i (omega arith)) (picked-entry p n j l) (decLt (getD (picked p n) i 0) (getD (picked p n) j 0))
+    by (getD (picked p n) i 0) (getD (picked p n) j 0) (picked-entry p n i (omega arith)) (picked-entry p n j l)
+    (decLt (getD (picked p n) i 0) (getD (picked p n) j 0))
   where
     by : (x y : ℕ) → Ranked p n i x → Ranked p n j y → Dec (x < y) → x < y
     by x y a b (yes k) = k
@@ -103,7 +105,8 @@ picked-room p n x h e = omega (arith, count-yes p x e, count-mono p (suc x) n h)
 
 pub picked-has : (p : ℕ → Bool) (n x : ℕ) → x < n → p x ≡ true → getD (picked p n) (count p x) 0 ≡ x
 picked-has p n x h e =
-    same-rank p n (count p x) (getD (picked p n) (count p x) 0) x (picked-entry p n (count p x) (picked-room p n x h e)) (record { below = h; picks = e; rank = refl })
+    same-rank p n (count p x) (getD (picked p n) (count p x) 0) x (picked-entry p n (count p x) (picked-room p n x h e))
+    (record { below = h; picks = e; rank = refl })
 
 -- the next number that p picks becomes the next entry of a list that the picked ones fill from the front
 pub picked-set : (p : ℕ → Bool) (n : ℕ) (s : List ℕ) → p n ≡ true → count p n < length s
@@ -159,7 +162,8 @@ count-less p x (suc n) = by (ℕ-discrete n x) (count-less p x n)
     at true c = omega arith
     at false c = omega arith
 
-    by : Dec (n ≡ x) → count p n ≤ suc (count (without p x) n) → cond (p n) (suc (count p n)) (count p n) ≤ suc (cond (without p x n) (suc (count (without p x) n)) (count (without p x) n))
+    by : Dec (n ≡ x) → count p n ≤ suc (count (without p x) n) → cond (p n) (suc (count p n)) (count p n) ≤ suc
+        (cond (without p x n) (suc (count (without p x) n)) (count (without p x) n))
     by (yes q) h = rw (← q, without-here p n, count-before p n n (omega arith)) (at (p n) (count p n))
     by (no k) h = rw (without-other p x n k) (cond-le (p n) (count p n) (count (without p x) n) h)
 
@@ -169,7 +173,8 @@ unfolding count
 count-one-less p x zero h e = absurd (not-suc-le-zero h)
 count-one-less p x (suc n) h e = by (ℕ-discrete n x) (λ l. count-one-less p x n l e)
   where
-    by : Dec (n ≡ x) → (x < n → count p n ≡ suc (count (without p x) n)) → cond (p n) (suc (count p n)) (count p n) ≡ suc (cond (without p x n) (suc (count (without p x) n)) (count (without p x) n))
+    by : Dec (n ≡ x) → (x < n → count p n ≡ suc (count (without p x) n))
+        → cond (p n) (suc (count p n)) (count p n) ≡ suc (cond (without p x n) (suc (count (without p x) n)) (count (without p x) n))
     by (yes q) r = rw (q, e, without-here p x, count-before p x x (omega arith))
     by (no k) r = rw (without-other p x n k) (cond-suc (p n) (count p n) (count (without p x) n) (r (omega arith)))
 
@@ -186,14 +191,20 @@ count-few s (suc k) p n h =
       count-less p (s k) n,
       count-few s k (without p (s k)) n
           (λ w e. let d = without-true p (s k) w e in let r = h w (d .0) in
-          record { index = r .index; within = ⊎-elim (λ q. absurd (d .1 (r .is ∙ ap s (low q)))) (λ l. le-of-suc-le-suc l) (eq-or-lt-of-le (r .within)); is = r .is }),
+          record {
+            index = r .index;
+            within = ⊎-elim (λ q. absurd (d .1 (r .is ∙ ap s (low q)))) (λ l. le-of-suc-le-suc l)
+                (eq-or-lt-of-le (r .within));
+            is = r .is;
+          }),
     )
   where
     low : {a b : ℕ} → suc a ≡ suc b → a ≡ b
     low q = omega arith
 
 -- a test that picks the different numbers s 0, .., s (k - 1) below n picks at least k
-pub count-many : (s : ℕ → ℕ) (k : ℕ) (p : ℕ → Bool) (n : ℕ) → ((i : ℕ) → i < k → (s i < n) × (p (s i) ≡ true)) → ((i j : ℕ) → i < j → j < k → s i ≡ s j → ⊥) → k ≤ count p n
+pub count-many : (s : ℕ → ℕ) (k : ℕ) (p : ℕ → Bool) (n : ℕ) → ((i : ℕ) → i < k → (s i < n) × (p (s i) ≡ true)) → ((i j : ℕ) → i < j → j < k → s i ≡ s j → ⊥)
+    → k ≤ count p n
 count-many s zero p n h g = omega arith
 count-many s (suc k) p n h g =
     omega (

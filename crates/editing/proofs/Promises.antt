@@ -19,7 +19,8 @@ use Rattle.editing.specs.Listed.{Lists}
 use Rattle.editing.specs.Steps.{firstElement}
 use Rattle.editing.proofs.Touching.{element-tail, element-block, touches-some}
 use Rattle.editing.proofs.Picking.{length-picked, picked-entry, picked-rises, picked-room, picked-has, count-few, count-many}
-use Rattle.editing.proofs.Listing.{own, own-in, own-element, own-fec, own-tail, own-block, slotNo, listedCount, listed-slot, listed-count-ge, listed-count-le, holding-listed}
+use Rattle.editing.proofs.Listing.{own, own-in, own-element, own-fec, own-tail, own-block, slotNo, listedCount, listed-slot, listed-count-ge}
+use Rattle.editing.proofs.Listing.{listed-count-le, holding-listed}
 use Rattle.editing.proofs.Passes.{edited-long, edited-kept}
 
 -- ---- the list
@@ -104,7 +105,8 @@ module _ (N b : ℕ) (bits parity cap : List ℕ) where
   word-after w h = word-laid N (editedWord N b bits parity cap) w h (edited-long N b bits parity cap w)
 
   -- a listed word is the word of the edited FEC block, check bits and all
-  pub word-edited : (w : ℕ) → w < words N → listed N b w ≡ true → wordIn (editedCapture N b bits parity cap) w ≡ wordsOf N (editedFec b bits parity (fecIn (wordIn cap))) w
+  pub word-edited : (w : ℕ) → w < words N → listed N b w ≡ true → wordIn (editedCapture N b bits parity cap) w ≡ wordsOf N
+      (editedFec b bits parity (fecIn (wordIn cap))) w
   unfolding editedWord
   word-edited w h e = word-after w h ∙ rw e
 

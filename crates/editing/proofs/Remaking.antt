@@ -19,7 +19,8 @@ use Rattle.line.specs.Words.{wordsOf, fecIn}
 use Rattle.line.proofs.FecLaws.{fields-info, fields-crc, fields-mbas, fields-parity, fields-bits, fields-all}
 use Rattle.line.proofs.FrameLaws.{element-fec}
 use Rattle.line.proofs.SlotLaws.{held, held-bit}
-use Rattle.editing.specs.Edit.{fecOf, inBlock, blockFrom, replaced, crcChange, newCrc, editedBits, editedFec, elementFec, elementLocal, listed, editedWord}
+use Rattle.editing.specs.Edit.{fecOf, inBlock, blockFrom, replaced, crcChange, newCrc, editedBits, editedFec, elementFec, elementLocal, listed}
+use Rattle.editing.specs.Edit.{editedWord}
 use Rattle.editing.specs.Steps.{newInfoBit, newBit, newElement, onePeriod, parityElement, remade}
 use Rattle.editing.proofs.Changing.{sequence-from, received-at}
 use Rattle.editing.proofs.Listing.{listed-holding, local-lt}
@@ -158,13 +159,16 @@ word-made N b bits parity cap w crc old h c q =
     (λ i m. sym (held-bit N (elementOf (superOf (editedFec b bits parity F))) w i (l .element)
     ∙ element-of (editedFec b bits parity F) e i (l .no-pad) m
     ∙ ap (λ (g : ℕ → ℕ). (g (elementBits * elementLocal e + i) + o (elementBits * (e % superElements) + i)) % 2) (edited-here b bits parity F t (l .block))
-    ∙ edited-new b bits parity (F t) (elementBits * (e % superElements) + i) (bitAt (wordIn cap w) i) (bitOf-lt 8 (wordIn cap w) i) (elementBits * elementLocal e + i) (local-place-lt e i m)
-    (received-at (wordIn cap) e i (l .no-pad) m ∙ ap (λ (x : ℕ). (bitAt (wordIn cap x) i + o (elementBits * (e % superElements) + i)) % 2) (held N w (l .element) .back)))))
+    ∙ edited-new b bits parity (F t) (elementBits * (e % superElements) + i) (bitAt (wordIn cap w) i) (bitOf-lt 8 (wordIn cap w) i)
+    (elementBits * elementLocal e + i) (local-place-lt e i m)
+    (received-at (wordIn cap) e i (l .no-pad) m ∙ ap (λ (x : ℕ). (bitAt (wordIn cap x) i + o (elementBits * (e % superElements) + i)) % 2)
+    (held N w (l .element) .back)))))
 
 -- ---- as the code makes it
 
 -- an element bit by bit
-pub made-slowly : (b : ℕ) (bits parity : List ℕ) (crc w : ℕ) (old v : List ℕ) → v ≡ pack 16 (newElement b bits parity crc (elementIn w) old) → wordOf v ≡ remade b bits parity crc w old
+pub made-slowly : (b : ℕ) (bits parity : List ℕ) (crc w : ℕ) (old v : List ℕ) → v ≡ pack 16 (newElement b bits parity crc (elementIn w) old)
+    → wordOf v ≡ remade b bits parity crc w old
 unfolding remade
 made-slowly b bits parity crc w old v e =
     let g = newElement b bits parity crc (elementIn w) old in
@@ -176,7 +180,8 @@ parity-bits : (parity : List ℕ) (e : ℕ) → Bits (parityElement parity e)
 unfolding parityElement
 parity-bits parity e i = omega arith
 
-parity-new : (b : ℕ) (bits parity : List ℕ) (crc e : ℕ) (old : List ℕ) (i : ℕ) → infoElements < elementLocal e → parityElement parity e i ≡ newElement b bits parity crc e old i
+parity-new : (b : ℕ) (bits parity : List ℕ) (crc e : ℕ) (old : List ℕ) (i : ℕ) → infoElements < elementLocal e
+    → parityElement parity e i ≡ newElement b bits parity crc e old i
 unfolding parityElement newElement
 parity-new b bits parity crc e old i h =
     let j = elementBits * elementLocal e - parityFrom + i in
@@ -184,7 +189,8 @@ parity-new b bits parity crc e old i h =
     let k = elementBits * (e % superElements) + i in
     sym (ap (λ (x : ℕ). newBit b bits parity crc x k (bitAt old i)) p ∙ new-parity b bits parity crc k (bitAt old i) j)
 
-pub made-whole : (b : ℕ) (bits parity : List ℕ) (crc w : ℕ) (old v : List ℕ) → infoElements < elementLocal (elementIn w) → v ≡ pack 16 (parityElement parity (elementIn w)) → wordOf v ≡ remade b bits parity crc w old
+pub made-whole : (b : ℕ) (bits parity : List ℕ) (crc w : ℕ) (old v : List ℕ) → infoElements < elementLocal (elementIn w)
+    → v ≡ pack 16 (parityElement parity (elementIn w)) → wordOf v ≡ remade b bits parity crc w old
 unfolding remade
 made-whole b bits parity crc w old v h e =
     let g = parityElement parity (elementIn w) in
@@ -194,7 +200,8 @@ made-whole b bits parity crc w old v h e =
 
 -- the two stretches of 128 bits added
 pub parity-sum : (parity scr : List ℕ) (e : ℕ) (u v : List ℕ) → scr ≡ onePeriod → infoElements < elementLocal e
-    → u ≡ pack 16 (from (bitAt parity) (elementBits * elementLocal e - parityFrom)) → v ≡ pack 16 (from (bitAt scr) (elementBits * (e % superElements) % period))
+    → u ≡ pack 16 (from (bitAt parity) (elementBits * elementLocal e - parityFrom))
+    → v ≡ pack 16 (from (bitAt scr) (elementBits * (e % superElements) % period))
     → pack 16 (added (bitAt u) (bitAt v)) ≡ pack 16 (parityElement parity e)
 unfolding parityElement
 parity-sum parity scr e u v s l p q =
@@ -203,4 +210,5 @@ parity-sum parity scr e u v s l p q =
     packs-ext 8 16 (added (bitAt u) (bitAt v)) (λ i. (bitAt parity (a + i) + o (k + i)) % 2)
     (λ i m. ap₂ (λ (x y : ℕ). (x + y) % 2)
     (ap (λ (s : List ℕ). bitAt s i) p ∙ bitOf-packs 8 16 (from (bitAt parity) a) i (λ j. bitOf-lt 8 parity (a + j)) m)
-    (ap (λ (s : List ℕ). bitAt s i) q ∙ bitOf-packs 8 16 (from (bitAt scr) (k % period)) i (λ j. bitOf-lt 8 scr (k % period + j)) m ∙ sequence-from scr k i s m))
+    (ap (λ (s : List ℕ). bitAt s i) q ∙ bitOf-packs 8 16 (from (bitAt scr) (k % period)) i (λ j. bitOf-lt 8 scr (k % period + j)) m
+    ∙ sequence-from scr k i s m))

@@ -89,7 +89,8 @@ untouched b i h e = rw (e, lt-leb infoBits i h, lt-leb parityFrom i (omega arith
 pub element-tail : (b m : ℕ) → infoElements ≤ m → touches b (elementBits * m) elementBits ≡ true
 element-tail b m h =
     touches-at b (elementBits * m) elementBits 0 (omega arith)
-    (⊎-elim (λ q. touched-crc b (elementBits * m + 0) (omega arith) (omega arith)) (λ l. touched-parity b (elementBits * m + 0) (omega arith)) (eq-or-lt-of-le h))
+    (⊎-elim (λ q. touched-crc b (elementBits * m + 0) (omega arith) (omega arith)) (λ l. touched-parity b (elementBits * m + 0) (omega arith))
+    (eq-or-lt-of-le h))
 
 pub element-block : (b m : ℕ) → blockFrom b / elementBits ≤ m → m ≤ (blockFrom b + 256) / elementBits → touches b (elementBits * m) elementBits ≡ true
 element-block b m h l =
@@ -107,7 +108,8 @@ element-past b m h l =
     (λ j k. untouched b (elementBits * m + j) (omega arith) (block-past b (elementBits * m + j) (omega arith)))
 
 -- how code tests it, where the element is none of the last and not before the block
-pub block-test : (b m : ℕ) → m < infoElements → blockFrom b / elementBits ≤ m → leb m ((blockFrom b + 256) / elementBits) ≡ touches b (elementBits * m) elementBits
+pub block-test : (b m : ℕ) → m < infoElements → blockFrom b / elementBits ≤ m
+    → leb m ((blockFrom b + 256) / elementBits) ≡ touches b (elementBits * m) elementBits
 block-test b m h l = by (leb m ((blockFrom b + 256) / elementBits)) refl
   where
     by : (t : Bool) → leb m ((blockFrom b + 256) / elementBits) ≡ t → t ≡ touches b (elementBits * m) elementBits

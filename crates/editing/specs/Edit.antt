@@ -13,7 +13,8 @@ use Rattle.answer.specs.Outcomes.{written}
 use Rattle.answer.specs.declared.Answer.{Answer}
 use Rattle.crc.specs.Crc.{remOf}
 use Rattle.hamming.specs.Code.{checksOf}
-use Rattle.sizes.specs.Sizes.{blockBytes, listLength, blocksOf, blockBits, clientBlocks, infoBits, crcBits, mbasFrom, parityFrom, parityBytes, fecBlocks, elementBits, superElements, fecElements, captureLength, words}
+use Rattle.sizes.specs.Sizes.{blockBytes, listLength, blocksOf, blockBits, clientBlocks, infoBits, crcBits, mbasFrom, parityFrom, parityBytes, fecBlocks}
+use Rattle.sizes.specs.Sizes.{elementBits, superElements, fecElements, captureLength, words}
 use Rattle.line.specs.Captures.{superAllowed}
 use Rattle.line.specs.Fec.{fields}
 use Rattle.line.specs.Slots.{elementIn, holds}

@@ -10,8 +10,9 @@ use Rattle.bits.specs.Loops.{count}
 use Rattle.scrambler.specs.Scrambler.{o}
 use Rattle.hamming.specs.Code.{coded}
 use Rattle.matrix.specs.Sums.{tailTable}
-use Rattle.lent.specs.Lent.{byteTable}
-use Rattle.sizes.specs.Sizes.{crcBits, parityFrom, parityBytes, fecBlocks, elementBits, superElements, fecElements, captureLength, longestWait, blocksOf, blockBytes, listLength}
+use Rattle.lent.specs.Steps.{byteTable}
+use Rattle.sizes.specs.Sizes.{crcBits, parityFrom, parityBytes, fecBlocks, elementBits, superElements, fecElements, captureLength, longestWait, blocksOf}
+use Rattle.sizes.specs.Sizes.{blockBytes, listLength}
 use Rattle.line.specs.Fec.{fields}
 use Rattle.line.specs.Slots.{elementIn}
 use Rattle.line_order.specs.Order.{laid, wordIn, putWord}

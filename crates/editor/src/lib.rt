@@ -10,13 +10,16 @@ ghost use Rattle.bits.specs.Loops.{first};
 ghost use Rattle.answer.specs.Outcomes.{Outcome};
 ghost use Rattle.answer.specs.Rows.{answerOf};
 ghost use Rattle.hamming.specs.Code.{checksOf};
-ghost use Rattle.lent.specs.Lent.{byteTable};
-ghost use Rattle.sizes.specs.Sizes.{blockBits, fecBits, fecBlocks, elementBits, superElements, fecElements, infoElements, captureLength, words, blocksOf, listLength};
+ghost use Rattle.lent.specs.Steps.{byteTable};
+ghost use Rattle.sizes.specs.Sizes.{blockBits, fecBits, fecBlocks, elementBits, superElements, fecElements, infoElements, captureLength, words, blocksOf};
+ghost use Rattle.sizes.specs.Sizes.{listLength};
 ghost use Rattle.line.specs.Slots.{elementIn};
 ghost use Rattle.line_order.specs.Order.{wordIn};
 ghost use Rattle.line.specs.Words.{fecIn};
-ghost use Rattle.editing.specs.Edit.{fecOf, blockFrom, change, crcChange, elementLocal, touches, listed, fails, spareSet, editEarlyRows, editAnswer, editLeaves};
-ghost use Rattle.editing.specs.Steps.{Accepted, onePeriod, firstElement, stretchFrom, stretchTo, newInfoBit, newBit, newElement, parityElement, remade, Lent, Passing, Turned};
+ghost use Rattle.editing.specs.Edit.{fecOf, blockFrom, change, crcChange, elementLocal, touches, listed, fails, spareSet, editEarlyRows, editAnswer};
+ghost use Rattle.editing.specs.Edit.{editLeaves};
+ghost use Rattle.editing.specs.Steps.{Accepted, onePeriod, firstElement, stretchFrom, stretchTo, newInfoBit, newBit, newElement, parityElement, remade};
+ghost use Rattle.editing.specs.Steps.{Lent, Passing, Turned};
 
 // One period of the scrambler's sequence, and a word's bits more, so that a word can be cut out anywhere.
 const PERIOD_BYTES: usize = 8208;
@@ -40,7 +43,8 @@ pub fn edit(
     capture: &mut [u8],
     list: &mut [u64],
 ) -> Answer
-    ensures { λ r. ⌜ Outcome (editAnswer n block (now (bits .entry)) (now (parity .entry)) (now (capture .entry)) (now (list .entry))) (editLeaves n block (now (bits .entry)) (now (parity .entry)) (now (capture .entry)) (now (list .entry))) r (now (capture .exit), now (list .exit)) ⌝ }
+    ensures { λ r. ⌜ Outcome (editAnswer n block (now (bits .entry)) (now (parity .entry)) (now (capture .entry)) (now (list .entry)))
+        (editLeaves n block (now (bits .entry)) (now (parity .entry)) (now (capture .entry)) (now (list .entry))) r (now (capture .exit), now (list .exit)) ⌝ }
 {
     let r = judge(
         n,
@@ -184,7 +188,10 @@ fn word_bit(capture: &[u8], w: usize, j: usize) -> u8
     requires { ⌜ (w < words 8) × (j < 128) ⌝ }
     ensures { λ r. ⌜ r ≡ bitAt (wordIn (now (capture .entry)) w) j ⌝ }
 {
-    bits::bit_at(capture, 8 * line_order::place(w as u32, (j / 8) as u32) + j % 8)
+    bits::bit_at(
+        capture,
+        8 * line_order::place(w as u32, (j / 8) as u32) + j % 8,
+    )
 }
 
 // Bit i of FEC block t of a capture, descrambled.
@@ -402,8 +409,10 @@ fn turn(
     capture: &mut [u8],
     list: &mut [u64],
 ) -> usize
-    requires { ⌜ (Lent (now scr) (now t) (now tails)) × (n ≤ 8) × (w < words n) × (length (now capture) ≡ captureLength n) × (c < length (now list)) × (b < blocksOf n) ⌝ }
-    ensures { λ r. ⌜ Turned n b (now (bits .entry)) (now (parity .entry)) crc w c (now (capture .entry)) (now (list .entry)) (now (capture .exit)) (now (list .exit)) r ⌝ }
+    requires { ⌜ (Lent (now scr) (now t) (now tails)) × (n ≤ 8) × (w < words n) × (length (now capture) ≡ captureLength n) × (c < length (now list))
+        × (b < blocksOf n) ⌝ }
+    ensures { λ r. ⌜ Turned n b (now (bits .entry)) (now (parity .entry)) crc w c (now (capture .entry)) (now (list .entry)) (now (capture .exit))
+        (now (list .exit)) r ⌝ }
 {
     if is_listed(n, b, w) {
         let old = line_order::word_in(capture, w);
@@ -428,8 +437,10 @@ fn rewrite(
     capture: &mut [u8],
     list: &mut [u64],
 ) -> usize
-    requires { ⌜ (Lent (now scr) (now t) (now tails)) × (n ≤ 8) × (b < blocksOf n) × (crc ≡ crcChange b (now bits) (fecIn (wordIn (now capture)) (fecOf b))) × (length (now capture) ≡ captureLength n) × (length (now list) ≡ listLength) ⌝ }
-    ensures { λ r. ⌜ Passing n b (now (bits .entry)) (now (parity .entry)) (now (capture .entry)) (now (list .entry)) (words n) (now (capture .exit)) (now (list .exit)) r ⌝ }
+    requires { ⌜ (Lent (now scr) (now t) (now tails)) × (n ≤ 8) × (b < blocksOf n) × (crc ≡ crcChange b (now bits) (fecIn (wordIn (now capture)) (fecOf b)))
+        × (length (now capture) ≡ captureLength n) × (length (now list) ≡ listLength) ⌝ }
+    ensures { λ r. ⌜ Passing n b (now (bits .entry)) (now (parity .entry)) (now (capture .entry)) (now (list .entry)) (words n) (now (capture .exit))
+        (now (list .exit)) r ⌝ }
 {
     let mut c: usize = 0;
     for w in stretch_from(b)..stretch_to(b) {
@@ -449,7 +460,8 @@ fn replace(
     list: &mut [u64],
 ) -> usize
     requires { ⌜ (now t ≡ byteTable) × Accepted n b (now bits) (now parity) (now capture) (now list) ⌝ }
-    ensures { λ r. ⌜ Passing n b (now (bits .entry)) (now (parity .entry)) (now (capture .entry)) (now (list .entry)) (words n) (now (capture .exit)) (now (list .exit)) r ⌝ }
+    ensures { λ r. ⌜ Passing n b (now (bits .entry)) (now (parity .entry)) (now (capture .entry)) (now (list .entry)) (words n) (now (capture .exit))
+        (now (list .exit)) r ⌝ }
 {
     let mut scr = [0u8; PERIOD_BYTES];
     scrambler::fill(&mut scr);
@@ -468,7 +480,8 @@ fn edit_checked(
     list: &mut [u64],
 ) -> Answer
     requires { ⌜ Accepted n b (now bits) (now parity) (now capture) (now list) ⌝ }
-    ensures { λ r. ⌜ Outcome (editAnswer n b (now (bits .entry)) (now (parity .entry)) (now (capture .entry)) (now (list .entry))) (editLeaves n b (now (bits .entry)) (now (parity .entry)) (now (capture .entry)) (now (list .entry))) r (now (capture .exit), now (list .exit)) ⌝ }
+    ensures { λ r. ⌜ Outcome (editAnswer n b (now (bits .entry)) (now (parity .entry)) (now (capture .entry)) (now (list .entry)))
+        (editLeaves n b (now (bits .entry)) (now (parity .entry)) (now (capture .entry)) (now (list .entry))) r (now (capture .exit), now (list .exit)) ⌝ }
 {
     let t = lent::byte_table();
     let w = first_refused(n, b, capture, &t);

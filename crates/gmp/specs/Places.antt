@@ -20,7 +20,7 @@ kindNumber Data = 1
 abbrev pub kindAt : ℕ → ℕ → ℕ
 kindAt c j = cond (isData c j) (kindNumber Data) (kindNumber Stuff)
 
--- how many of the n places from f on are data, place by place
+-- how many of the n places from f on are data, place by place; from place 1 on that is floor(n·C / P): `floor` of proofs/Floor.antt
 unfoldable pub dataFrom : ℕ → ℕ → ℕ → ℕ
 dataFrom c f n = count (λ k. isData c (f + k)) n
 

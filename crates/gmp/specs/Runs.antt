@@ -10,7 +10,8 @@ use Rattle.gmp.specs.Places.{isData}
 unfoldable pub changes : ℕ → ℕ → ℕ → Bool
 changes c j k = not (Bool·beq (isData c (j + k)) (isData c (suc (j + k))))
 
--- the last place of j's run: the first place from j on behind which the kind changes, or the last place of all
+-- the last place of j's run: the first place from j on behind which the kind changes, or the last place of all (`last-ends`, `ends-last` of
+-- proofs/Stretches.antt: it ends the run, and no other place does)
 unfoldable pub lastOfRun : ℕ → ℕ → ℕ
 lastOfRun c j = j + first (changes c j) (places - j)
 

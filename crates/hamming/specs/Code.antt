@@ -33,7 +33,8 @@ joined f p i = cond (ltb i elementBits) (f i) (digit checkBits p (i - elementBit
 abbrev pub joinedWord : (ℕ → ℕ) → ℕ → List ℕ
 joinedWord f p = pack wordBytes (joined f p)
 
--- the code word of the 119 bits f 0 .. f 118: the check bits add what the others add, so that all checks are zero
+-- the code word of the 119 bits f 0 .. f 118: the check bits add what the others add, so that all checks are zero (`coded-checks` of
+-- proofs/Words.antt), and no other word with these bits has that (`coded-only`)
 unfoldable pub coded : (ℕ → ℕ) → List ℕ
 coded f = joinedWord f (tailOf (elementSum f))
 

@@ -19,8 +19,7 @@ use Rattle.sizes.specs.Sizes.{wordBytes}
 use Rattle.matrix.specs.Columns.{columnOf}
 use Rattle.matrix.specs.Sums.{taken}
 use Rattle.hamming.specs.Code.{byteSum}
-use Rattle.lent.specs.Lent.{byteEntry, byteTable}
-use Rattle.lent.specs.Doubling.{Begun, Doubles}
+use Rattle.lent.specs.Steps.{byteEntry, byteTable, Begun, Doubles}
 use Rattle.matrix.proofs.Sums.{unit, sum-same, sum-unit, taken-same, taken-xor}
 use Rattle.hamming.proofs.Turning.{mark-digit}
 

@@ -13,7 +13,7 @@ use Rattle.matrix.specs.Columns.{positionOf}
 use Rattle.matrix.specs.Sums.{tailOf, tailTable, positionTable}
 use Rattle.hamming.specs.Code.{checksOf, elementSum, joined, joinedWord, coded, wordOf, byteSum}
 use Rattle.hamming.specs.Repair.{repairAt, repairOf}
-use Rattle.lent.specs.Lent.{byteEntry, byteTable, entryAt, sumBy, wordBy}
+use Rattle.lent.specs.Steps.{byteEntry, byteTable, entryAt, sumBy, wordBy}
 use Rattle.matrix.proofs.Sums.{sum-same}
 use Rattle.matrix.proofs.Matrix.{tail-lt}
 use Rattle.hamming.proofs.Words.{checks-lt, element-lt, joined-lt, pack-bytes}

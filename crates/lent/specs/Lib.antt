@@ -1,3 +1,2 @@
--- What the contracts of `lent` are stated in.
-pub mod Lent
-pub mod Doubling
+-- What the contracts of `lent` are stated in: the code's steps by lent tables.
+pub mod Steps

@@ -6,8 +6,7 @@ ghost use lib.ListN.{getD};
 ghost use Rattle.sizes.specs.Sizes.{wordBytes};
 ghost use Rattle.matrix.specs.Columns.{columns};
 ghost use Rattle.hamming.specs.Repair.{repairAt};
-ghost use Rattle.lent.specs.Doubling.{Begun, Doubles};
-ghost use Rattle.lent.specs.Lent.{byteTable, sumBy, wordBy};
+ghost use Rattle.lent.specs.Steps.{Begun, Doubles, byteTable, sumBy, wordBy};
 
 // The entries from at + n on, out of the n before them: each has one bit more, whose column is c.
 fn double(t: &mut [u16; 4096], at: usize, n: usize, c: u16)

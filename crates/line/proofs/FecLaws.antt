@@ -112,18 +112,22 @@ module _ (m0 : ℕ) (info par : List ℕ) (t : ℕ) where
 -- ---- information and parity come back from bits that agree with the blocks'
 
 module _ (N : ℕ) (F : ℕ → ℕ → ℕ) where
-  pub info-back : (info : List ℕ) → length info ≡ infoLength N → Bytes info → ((t i : ℕ) → t < 5 * N → i < infoBits → F t i ≡ infoBit info t i) → infoOf N F ≡ info
+  pub info-back : (info : List ℕ) → length info ≡ infoLength N → Bytes info → ((t i : ℕ) → t < 5 * N → i < infoBits → F t i ≡ infoBit info t i)
+      → infoOf N F ≡ info
   unfolding infoOf infoBit
   info-back info len bytes h =
       packs-ext 8 (infoLength N) (λ j. F (j / infoBits) (j % infoBits)) (bitAt info)
-      (λ j l. let e : infoBits * (j / infoBits) + j % infoBits ≡ j = omega arith in h (j / infoBits) (j % infoBits) (omega arith) (omega arith) ∙ ap (bitAt info) e)
+      (λ j l. let e : infoBits * (j / infoBits) + j % infoBits ≡ j = omega arith in h (j / infoBits) (j % infoBits) (omega arith) (omega arith)
+      ∙ ap (bitAt info) e)
       ∙ ap (λ (n : ℕ). pack n (bitAt info)) (sym len)
       ∙ packs-bitOf 8 info bytes
 
-  pub parity-back : (par : List ℕ) → length par ≡ parityLength N → Bytes par → ((t j : ℕ) → t < 5 * N → j < parityBits → F t (parityFrom + j) ≡ parityBit par t j) → parityOf N F ≡ par
+  pub parity-back : (par : List ℕ) → length par ≡ parityLength N → Bytes par
+      → ((t j : ℕ) → t < 5 * N → j < parityBits → F t (parityFrom + j) ≡ parityBit par t j) → parityOf N F ≡ par
   unfolding parityOf parityBit
   parity-back par len bytes h =
       packs-ext 8 (parityLength N) (λ j. F (j / parityBits) (parityFrom + j % parityBits)) (bitAt par)
-      (λ j l. let e : parityBits * (j / parityBits) + j % parityBits ≡ j = omega arith in h (j / parityBits) (j % parityBits) (omega arith) (omega arith) ∙ ap (bitAt par) e)
+      (λ j l. let e : parityBits * (j / parityBits) + j % parityBits ≡ j = omega arith in h (j / parityBits) (j % parityBits) (omega arith) (omega arith)
+      ∙ ap (bitAt par) e)
       ∙ ap (λ (n : ℕ). pack n (bitAt par)) (sym len)
       ∙ packs-bitOf 8 par bytes

@@ -22,7 +22,8 @@ unfolding elementOf
 element-bits S e i = omega arith
 
 -- bit i of local element l is bit 119 l + i of its super frame
-pub element-at : (S : ℕ → ℕ → ℕ) (f l i : ℕ) → l < superElements → elementOf S (superElements * f + l) i ≡ (S f (elementBits * l + i) + o (elementBits * l + i)) % 2
+pub element-at : (S : ℕ → ℕ → ℕ) (f l i : ℕ) → l < superElements → elementOf S
+    (superElements * f + l) i ≡ (S f (elementBits * l + i) + o (elementBits * l + i)) % 2
 unfolding elementOf
 element-at S f l i h =
     let p : (superElements * f + l) / superElements ≡ f = omega arith in
@@ -30,7 +31,8 @@ element-at S f l i h =
     rw (p, q)
 
 -- descrambled and scrambled, for elements E that are those of S on their 119 bits
-pub super-back : (S E : ℕ → ℕ → ℕ) (f k : ℕ) → k < superBits → S f k < 2 → ((i : ℕ) → i < elementBits → E (superElements * f + k / elementBits) i ≡ elementOf S (superElements * f + k / elementBits) i)
+pub super-back : (S E : ℕ → ℕ → ℕ) (f k : ℕ) → k < superBits → S f k < 2
+    → ((i : ℕ) → i < elementBits → E (superElements * f + k / elementBits) i ≡ elementOf S (superElements * f + k / elementBits) i)
     → superFrom E f k ≡ S f k
 unfolding superFrom
 super-back S E f k h b same =
@@ -67,7 +69,8 @@ fec-back F S t i h same =
 
 -- bit i of local element m of FEC block b of super frame f
 pub element-fec : (F : ℕ → ℕ → ℕ) (f b m i : ℕ) → b < fecBlocks → m < fecElements → i < elementBits
-    → elementOf (superOf F) (superElements * f + (fecElements * b + m)) i ≡ (F (fecBlocks * f + b) (elementBits * m + i) + o (elementBits * (fecElements * b + m) + i)) % 2
+    → elementOf (superOf F) (superElements * f + (fecElements * b + m))
+    i ≡ (F (fecBlocks * f + b) (elementBits * m + i) + o (elementBits * (fecElements * b + m) + i)) % 2
 element-fec F f b m i hb hm hi =
     let p : elementBits * (fecElements * b + m) + i ≡ fecBits * b + (elementBits * m + i) = omega arith in
     element-at (superOf F) f (fecElements * b + m) i (omega arith)
@@ -78,5 +81,6 @@ pub element-pad : (F : ℕ → ℕ → ℕ) (f m i : ℕ) → m < 6 → i < elem
     → elementOf (superOf F) (superElements * f + (fecElements * fecBlocks + m)) i ≡ o (elementBits * (fecElements * fecBlocks + m) + i) % 2
 element-pad F f m i hm hi =
     element-at (superOf F) f (fecElements * fecBlocks + m) i (omega arith)
-    ∙ ap (λ (x : ℕ). (x + o (elementBits * (fecElements * fecBlocks + m) + i)) % 2) (super-pad F f (elementBits * (fecElements * fecBlocks + m) + i) (omega arith))
+    ∙ ap (λ (x : ℕ). (x + o (elementBits * (fecElements * fecBlocks + m) + i)) % 2)
+    (super-pad F f (elementBits * (fecElements * fecBlocks + m) + i) (omega arith))
     ∙ ap (λ (x : ℕ). x % 2) (zero-add (o (elementBits * (fecElements * fecBlocks + m) + i)))

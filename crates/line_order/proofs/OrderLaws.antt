@@ -116,8 +116,10 @@ module _ (o : Order) (n l : ℕ) (one : OneToOne o n) (fits : l ≡ wordBytes * 
       where
         m : b < wordBytes * n
         m = rw fits at i
+
         back : o .word b ≡ w → o .place w (o .symbol b) ≡ b
         back e = ap (λ (x : ℕ). o .place x (o .symbol b)) (sym e) ∙ one .place-back b m
+
         by : Dec (o .word b ≡ w) → getD (put wordBytes) b 0 ≡ cond (eqb (o .word b) w) (getD v (o .symbol b) 0) (getD cap b 0)
         by (yes e) =
             rw (eq-eqb (o .word b) w e)

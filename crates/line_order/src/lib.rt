@@ -4,7 +4,7 @@ ghost use mathlib.Core.Path.{_≡_};
 ghost use Prim.Native.Nat.{_/_, _^_, _<_, min};
 ghost use lib.ListN.{length, set};
 ghost use Rattle.sizes.specs.Sizes.{wordBytes, groupWords};
-ghost use Rattle.lent.specs.Lent.{sumBy};
+ghost use Rattle.lent.specs.Steps.{sumBy};
 ghost use Rattle.line_order.specs.Order.{groupSize, symbolPlace, wordIn, putWord};
 ghost use Rattle.line_order.specs.Group.{laidGroup, takenGroup};
 

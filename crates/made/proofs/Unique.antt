@@ -28,7 +28,8 @@ one-below κs a x y s t p q = only p q
 pub one-fill : (κs : _) (a : _) (x y : _) (s t : _) → fill.Post κs a x s → fill.Post κs a y t → (x ≡ y) × (now (s .1 .0) ≡ now (t .1 .0))
 one-fill κs a x y s t p q = (only (p .state) (q .state), only (p .filled) (q .filled))
 
-pub one-fill-numbers : (κs : _) (a : _) (x y : _) (s t : _) → fill-numbers.Post κs a x s → fill-numbers.Post κs a y t → (x ≡ y) × (now (s .1 .0) ≡ now (t .1 .0))
+pub one-fill-numbers : (κs : _) (a : _) (x y : _) (s t : _) → fill-numbers.Post κs a x s → fill-numbers.Post κs a y t
+    → (x ≡ y) × (now (s .1 .0) ≡ now (t .1 .0))
 one-fill-numbers κs a x y s t p q = (only (p .state) (q .state), only (p .filled) (q .filled))
 
 pub one-digest : (κs : _) (a : _) (x y : _) (s t : _) → digest.Post κs a x s → digest.Post κs a y t → x ≡ y

@@ -17,7 +17,8 @@ unfoldable pub windowBit : ℕ → ℕ → List ℕ → ℕ → ℕ
 windowBit c f g i =
     cond (isData c (f + i / groupBits)) (bitAt g (groupBits * dataFrom c f (i / groupBits) + i % groupBits)) 0
 
--- the place of data group q, counted from f: the first with which more than q data places have come
+-- the place of data group q, counted from f: the first with which more than q data places have come. It is data, with q data places before it:
+-- `stands` of proofs/Ranks.antt
 unfoldable pub groupPlace : ℕ → ℕ → ℕ → ℕ → ℕ
 groupPlace c f n q = first (λ m. ltb q (dataFrom c f (suc m))) n
 

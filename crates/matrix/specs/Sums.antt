@@ -22,7 +22,8 @@ tailSum p = sumTo (taken elementBits (digit checkBits p)) checkBits
 unfoldable pub tailSums : List ℕ
 tailSums = tabulate (2 ^ checkBits) tailSum
 
--- the first nine check bits that add c to the checks
+-- the first nine check bits that add c to the checks; no other nine do: `independent` of proofs/Matrix.antt, and of words `coded-only` of
+-- hamming.proofs.Words
 unfoldable pub tailOf : ℕ → ℕ
 tailOf c = placeIn tailSums c
 

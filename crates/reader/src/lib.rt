@@ -15,7 +15,7 @@ ghost use Rattle.crc.specs.Crc.{crcOf};
 ghost use Rattle.crc.specs.Steps.{entries};
 ghost use Rattle.hamming.specs.Code.{checksOf};
 ghost use Rattle.matrix.specs.Sums.{positionTable};
-ghost use Rattle.lent.specs.Lent.{byteTable};
+ghost use Rattle.lent.specs.Steps.{byteTable};
 ghost use Rattle.hamming.specs.Repair.{repairOf};
 ghost use Rattle.sizes.specs.Sizes.{infoBits, fecBits, fecBlocks, superBytes, infoLength, parityLength, words};
 ghost use Rattle.line.specs.Frames.{infoOf, parityOf};
@@ -23,7 +23,8 @@ ghost use Rattle.line.specs.Slots.{slotOf, holds};
 ghost use Rattle.line_order.specs.Order.{wordIn};
 ghost use Rattle.line.specs.Words.{fecIn};
 ghost use Rattle.reading.specs.Read.{repaired, allZero, readAnswer, readLeaves};
-ghost use Rattle.reading.specs.Steps.{Accepted, OneIf, Tables, sequence, soughtOf, wordsTo, frameOf, followed, plainByte, mbasOff, crcOff, padOff, blockTaken, framesTo, infoIn, parityIn, lateAnswer, lateLeaves};
+ghost use Rattle.reading.specs.Steps.{Accepted, OneIf, Tables, sequence, soughtOf, wordsTo, frameOf, followed, plainByte, mbasOff, crcOff, padOff};
+ghost use Rattle.reading.specs.Steps.{blockTaken, framesTo, infoIn, parityIn, lateAnswer, lateLeaves};
 
 // The pad in whole bytes.
 const PAD_BYTES: usize = (sizes::PAD_BITS + 7) / 8;
@@ -31,7 +32,8 @@ const PAD_BYTES: usize = (sizes::PAD_BITS + 7) / 8;
 // Takes n super frames, whose FEC blocks count from m0 on, and a capture, and fills information and parity. The count is that of the
 // words whose checks were not zero.
 pub fn read(n: u64, m0: u64, capture: &[u8], info: &mut [u8], parity: &mut [u8]) -> Answer
-    ensures { λ r. ⌜ Outcome (readAnswer n m0 (now (capture .entry)) (now (info .entry)) (now (parity .entry))) (readLeaves n m0 (now (capture .entry)) (now (info .entry)) (now (parity .entry))) r (now (info .exit), now (parity .exit)) ⌝ }
+    ensures { λ r. ⌜ Outcome (readAnswer n m0 (now (capture .entry)) (now (info .entry)) (now (parity .entry)))
+        (readLeaves n m0 (now (capture .entry)) (now (info .entry)) (now (parity .entry))) r (now (info .exit), now (parity .exit)) ⌝ }
 {
     let r = reading::judge(
         n,
@@ -50,7 +52,8 @@ pub fn read(n: u64, m0: u64, capture: &[u8], info: &mut [u8], parity: &mut [u8])
 // The numbers and lengths are right. Tables are made once and lent; a constant one would be copied at every use.
 fn read_accepted(n: usize, m0: u64, capture: &[u8], info: &mut [u8], parity: &mut [u8]) -> Answer
     requires { ⌜ Accepted n (now capture) (now info) (now parity) ⌝ }
-    ensures { λ r. ⌜ Outcome (lateAnswer n m0 (now (capture .entry))) (lateLeaves n m0 (now (capture .entry)) (now (info .entry)) (now (parity .entry))) r (now (info .exit), now (parity .exit)) ⌝ }
+    ensures { λ r. ⌜ Outcome (lateAnswer n m0 (now (capture .entry))) (lateLeaves n m0 (now (capture .entry)) (now (info .entry)) (now (parity .entry))) r
+        (now (info .exit), now (parity .exit)) ⌝ }
 {
     let t = lent::byte_table();
     let positions = matrix::position_table();
@@ -86,8 +89,10 @@ fn read_by(
     info: &mut [u8],
     parity: &mut [u8],
 ) -> Answer
-    requires { ⌜ Tables (now t) (now positions) × (now scr ≡ sequence) × (length (now buffer) ≡ superBytes) × Accepted n (now capture) (now info) (now parity) ⌝ }
-    ensures { λ r. ⌜ Outcome (lateAnswer n m0 (now (capture .entry))) (lateLeaves n m0 (now (capture .entry)) (now (info .entry)) (now (parity .entry))) r (now (info .exit), now (parity .exit)) ⌝ }
+    requires { ⌜ Tables (now t) (now positions) × (now scr ≡ sequence) × (length (now buffer) ≡ superBytes)
+        × Accepted n (now capture) (now info) (now parity) ⌝ }
+    ensures { λ r. ⌜ Outcome (lateAnswer n m0 (now (capture .entry))) (lateLeaves n m0 (now (capture .entry)) (now (info .entry)) (now (parity .entry))) r
+        (now (info .exit), now (parity .exit)) ⌝ }
 {
     let w = tally_words(t, positions, n, capture);
     let b = tally_frames(t, positions, scr, n, m0, capture, buffer);
@@ -365,7 +370,8 @@ fn take_frame(
     x: BlockTally,
     buffer: &mut [u8],
 ) -> BlockTally
-    requires { ⌜ Tables (now t) (now positions) × (now scr ≡ sequence) × (now crcs ≡ entries) × (f < 8) × (length (now buffer) ≡ superBytes) × (x ≡ framesTo m0 (now capture) f) ⌝ }
+    requires { ⌜ Tables (now t) (now positions) × (now scr ≡ sequence) × (now crcs ≡ entries) × (f < 8) × (length (now buffer) ≡ superBytes)
+        × (x ≡ framesTo m0 (now capture) f) ⌝ }
     ensures { λ r. ⌜ r ≡ framesTo m0 (now (capture .entry)) (f + 1) ⌝ }
 {
     frame(t, positions, scr, capture, f, buffer);
@@ -407,7 +413,8 @@ fn tally_frames(
 // The information and the parity of a super frame, out of its bytes.
 fn write_blocks(s: &[u8], info: &mut [u8], parity: &mut [u8])
     requires { ⌜ (length (now info) ≡ infoLength 1) × (length (now parity) ≡ parityLength 1) ⌝ }
-    ensures { λ _. ⌜ (now (info .exit) ≡ pack (infoLength 1) (infoIn (now (s .entry)))) × (now (parity .exit) ≡ pack (parityLength 1) (parityIn (now (s .entry)))) ⌝ }
+    ensures { λ _. ⌜ (now (info .exit) ≡ pack (infoLength 1) (infoIn (now (s .entry))))
+        × (now (parity .exit) ≡ pack (parityLength 1) (parityIn (now (s .entry)))) ⌝ }
 {
     for b in 0..sizes::FEC_BLOCKS {
         let i = sizes::INFO_BYTES * b;
@@ -432,8 +439,10 @@ fn write_frames(
     info: &mut [u8],
     parity: &mut [u8],
 )
-    requires { ⌜ Tables (now t) (now positions) × (now scr ≡ sequence) × (n < 9) × (length (now buffer) ≡ superBytes) × (length (now info) ≡ infoLength n) × (length (now parity) ≡ parityLength n) ⌝ }
-    ensures { λ _. ⌜ (now (info .exit) ≡ infoOf n (fecIn (repaired (now (capture .entry))))) × (now (parity .exit) ≡ parityOf n (fecIn (repaired (now (capture .entry))))) ⌝ }
+    requires { ⌜ Tables (now t) (now positions) × (now scr ≡ sequence) × (n < 9) × (length (now buffer) ≡ superBytes) × (length (now info) ≡ infoLength n)
+        × (length (now parity) ≡ parityLength n) ⌝ }
+    ensures { λ _. ⌜ (now (info .exit) ≡ infoOf n (fecIn (repaired (now (capture .entry)))))
+        × (now (parity .exit) ≡ parityOf n (fecIn (repaired (now (capture .entry))))) ⌝ }
 {
     for f in 0..n {
         let i = sizes::SUPER_INFO_BYTES * f;

@@ -61,8 +61,10 @@ unfolding blockTaken
 block-more m0 cap f k h =
     let t = fecBlocks * f + k in
     let next : 5 * f + k + 1 ≡ 5 * f + (k + 1) = omega arith in
-    let a : soughtOf (first (mbasDiffers m0 cap) t) t (mbasOff m0 (frameOf cap f) t k) ≡ first (mbasDiffers m0 cap) (5 * f + (k + 1)) = ap (soughtOf (first (mbasDiffers m0 cap) t) t) (mbas-same m0 cap f k h) ∙ first-more (mbasDiffers m0 cap) t ∙ ap (first (mbasDiffers m0 cap)) next in
-    let b : soughtOf (first (crcDiffers cap) t) t (crcOff (frameOf cap f) k) ≡ first (crcDiffers cap) (5 * f + (k + 1)) = ap (soughtOf (first (crcDiffers cap) t) t) (crc-same cap f k h) ∙ first-more (crcDiffers cap) t ∙ ap (first (crcDiffers cap)) next in
+    let a : soughtOf (first (mbasDiffers m0 cap) t) t (mbasOff m0 (frameOf cap f) t k) ≡ first (mbasDiffers m0 cap) (5 * f + (k + 1)) = ap
+    (soughtOf (first (mbasDiffers m0 cap) t) t) (mbas-same m0 cap f k h) ∙ first-more (mbasDiffers m0 cap) t ∙ ap (first (mbasDiffers m0 cap)) next in
+    let b : soughtOf (first (crcDiffers cap) t) t (crcOff (frameOf cap f) k) ≡ first (crcDiffers cap) (5 * f + (k + 1)) = ap
+    (soughtOf (first (crcDiffers cap) t) t) (crc-same cap f k h) ∙ first-more (crcDiffers cap) t ∙ ap (first (crcDiffers cap)) next in
     ap₂ (λ (x y : ℕ). record { mbas = x; crc = y; pad = first (padDiffers cap) f }) a b
 
 blocks-none : (m0 : ℕ) (cap : List ℕ) (f : ℕ) → framesTo m0 cap f ≡ blocksTo m0 cap f 0
@@ -79,7 +81,8 @@ pub frame-more : (m0 : ℕ) (cap s : List ℕ) (f : ℕ) (x y : BlockTally) (pad
     → pad ≡ soughtOf (y .pad) f (padOff s) → _≡_ {A = BlockTally} (record { mbas = y .mbas; crc = y .crc; pad = pad }) (framesTo m0 cap (f + 1))
 frame-more m0 cap s f x y pad es ex ey ep =
     let z : y ≡ blocksTo m0 cap f 5 = ey ∙ ap₂ (λ (l : List ℕ) (t : BlockTally). upto (blockTaken m0 l f) t 5) es ex ∙ blocks-taken m0 cap f 5 (omega arith) in
-    let p : pad ≡ first (padDiffers cap) (f + 1) = ep ∙ ap₂ (λ (l : List ℕ) (t : BlockTally). soughtOf (t .pad) f (padOff l)) es z ∙ ap (soughtOf (first (padDiffers cap) f) f) (pad-same cap f) ∙ first-more (padDiffers cap) f in
+    let p : pad ≡ first (padDiffers cap) (f + 1) = ep ∙ ap₂ (λ (l : List ℕ) (t : BlockTally). soughtOf (t .pad) f (padOff l)) es z
+    ∙ ap (soughtOf (first (padDiffers cap) f) f) (pad-same cap f) ∙ first-more (padDiffers cap) f in
     let next : 5 * f + 5 ≡ 5 * (f + 1) = omega arith in
     let a : y .mbas ≡ first (mbasDiffers m0 cap) (5 * (f + 1)) = ap (λ (t : BlockTally). t .mbas) z ∙ ap (first (mbasDiffers m0 cap)) next in
     let b : y .crc ≡ first (crcDiffers cap) (5 * (f + 1)) = ap (λ (t : BlockTally). t .crc) z ∙ ap (first (crcDiffers cap)) next in

@@ -31,7 +31,8 @@ nine-of b h =
     ∙ sym (num-split 8 1 (bitAt b) 0)
 
 -- the bits of a word from bit i on, out of its bytes and one of zeros
-pub zeros-behind : (v w d : List ℕ) (i : ℕ) → i < 8 → length v ≡ 16 → Filled 16 (λ k. getD v k 0) d w → getD d 16 0 ≡ 0 → pack 16 (from (bitAt w) i) ≡ pack 16 (from (bitAt v) i)
+pub zeros-behind : (v w d : List ℕ) (i : ℕ) → i < 8 → length v ≡ 16 → Filled 16 (λ k. getD v k 0) d w → getD d 16 0 ≡ 0
+    → pack 16 (from (bitAt w) i) ≡ pack 16 (from (bitAt v) i)
 unfolding bitOf
 zeros-behind v w d i h len e z =
     packs-ext 8 16 (from (bitAt w) i) (from (bitAt v) i) (λ j l. ap (λ (x : ℕ). digit 8 x ((i + j) % 8)) (by ((i + j) / 8) (omega arith)))
@@ -51,8 +52,10 @@ byte-behind v x i k h e =
 pub long-of : (f : ℕ → ℕ) (a : ℕ) (w : List ℕ) → w ≡ pack 16 (from f a)
     → ((getD w 0 0 * 256 + getD w 1 0) * 256 + getD w 2 0) * 256 + getD w 3 0 ≡ num 32 f a
 long-of f a w e =
-    ap₂ (λ (x y : ℕ). x * 256 + y) (ap₂ (λ (x y : ℕ). x * 256 + y) (ap₂ (λ (x y : ℕ). x * 256 + y) (byte 0 (omega arith) ∙ at 0 a (omega arith)) (byte 1 (omega arith))) (byte 2 (omega arith))) (byte 3 (omega arith))
-    ∙ sym (num-split 24 8 f a ∙ ap (λ (x : ℕ). x * 256 + num 8 f (a + 24)) (num-split 16 8 f a ∙ ap (λ (x : ℕ). x * 256 + num 8 f (a + 16)) (num-split 8 8 f a)))
+    ap₂ (λ (x y : ℕ). x * 256 + y) (ap₂ (λ (x y : ℕ). x * 256 + y) (ap₂ (λ (x y : ℕ). x * 256 + y) (byte 0 (omega arith)
+    ∙ at 0 a (omega arith)) (byte 1 (omega arith))) (byte 2 (omega arith))) (byte 3 (omega arith))
+    ∙ sym (num-split 24 8 f a ∙ ap (λ (x : ℕ). x * 256 + num 8 f (a + 24)) (num-split 16 8 f a
+    ∙ ap (λ (x : ℕ). x * 256 + num 8 f (a + 16)) (num-split 8 8 f a)))
   where
     at : (k b : ℕ) → a + 8 * k ≡ b → num 8 f (a + 8 * k) ≡ num 8 f b
     at k b q = ap (num 8 f) q

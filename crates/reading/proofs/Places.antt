@@ -18,7 +18,8 @@ use Rattle.scrambler.specs.Scrambler.{o}
 use Rattle.scrambler.proofs.Rule.{o-lt}
 use Rattle.hamming.specs.Code.{joined}
 use Rattle.hamming.proofs.Words.{joined-low, joined-high, joined-bit}
-use Rattle.sizes.specs.Sizes.{infoBits, parityBits, parityFrom, fecBits, infoBytes, parityBytes, fecBlocks, superBits, superBytes, superElements, elementBits, superInfoBytes, superParityBytes}
+use Rattle.sizes.specs.Sizes.{infoBits, parityBits, parityFrom, fecBits, infoBytes, parityBytes, fecBlocks, superBits, superBytes, superElements}
+use Rattle.sizes.specs.Sizes.{elementBits, superInfoBytes, superParityBytes}
 use Rattle.line.specs.Frames.{superFrom, fecFrom}
 use Rattle.line.specs.Slots.{slotOf}
 use Rattle.line.specs.Words.{elementFrom, superIn, fecIn}
@@ -91,7 +92,8 @@ module _ (W : ℕ → List ℕ) (f l : ℕ) where
       ap₂ (λ (x y : ℕ). (bitAt pair x + o y) % 2) s q ∙ sym (super-bit (8 * k + l % 8 + j) (omega arith)) ∙ ap (superIn W f) (sym q))
 
 -- byte k of those that begin in element l, as the code makes it out of the element's word and the next one's
-pub element-byte : (cap scr v : List ℕ) (f l n k : ℕ) → scr ≡ sequence → v ≡ pair (repaired cap) f l → l < superElements → n ≡ startOf (l + 1) - startOf l → k < n
+pub element-byte : (cap scr v : List ℕ) (f l n k : ℕ) → scr ≡ sequence → v ≡ pair (repaired cap) f l → l < superElements → n ≡ startOf (l + 1) - startOf l
+    → k < n
     → plainByte v (l % 8) (take n (drop (startOf l) scr)) k ≡ byteOf (superIn (repaired cap) f) (startOf l + k)
 unfolding plainByte
 element-byte cap scr v f l n k es ev hl en h =
@@ -145,7 +147,8 @@ abbrev pub parityAll : (ℕ → ℕ → ℕ) → ℕ → ℕ
 parityAll F j = F (j / parityBits) (parityFrom + j % parityBits)
 
 -- byte k of super frame f's, in the whole
-pub info-whole : (cap s : List ℕ) (f k : ℕ) → s ≡ frameOf cap f → k < superInfoBytes → byteOf (infoIn s) k ≡ byteOf (infoAll (fecIn (repaired cap))) (superInfoBytes * f + k)
+pub info-whole : (cap s : List ℕ) (f k : ℕ) → s ≡ frameOf cap f → k < superInfoBytes
+    → byteOf (infoIn s) k ≡ byteOf (infoAll (fecIn (repaired cap))) (superInfoBytes * f + k)
 unfolding infoIn
 info-whole cap s f k e h =
     ap (λ (l : List ℕ). byteOf (infoIn l) k) e
@@ -156,7 +159,8 @@ info-whole cap s f k e h =
     frame-fec cap f ((8 * k + j) / infoBits) ((8 * k + j) % infoBits) (omega arith) (omega arith)
     ∙ sym (ap₂ (fecIn (repaired cap)) p q))
 
-pub parity-whole : (cap s : List ℕ) (f k : ℕ) → s ≡ frameOf cap f → k < superParityBytes → byteOf (parityIn s) k ≡ byteOf (parityAll (fecIn (repaired cap))) (superParityBytes * f + k)
+pub parity-whole : (cap s : List ℕ) (f k : ℕ) → s ≡ frameOf cap f → k < superParityBytes
+    → byteOf (parityIn s) k ≡ byteOf (parityAll (fecIn (repaired cap))) (superParityBytes * f + k)
 unfolding parityIn
 parity-whole cap s f k e h =
     ap (λ (l : List ℕ). byteOf (parityIn l) k) e
@@ -170,7 +174,8 @@ parity-whole cap s f k e h =
 -- ---- a part that a callee filled
 
 -- the callee's m elements are h, which is f from a on
-pub filled-part : {a : ℕ} {f : ℕ → ℕ} {d out : List ℕ} (k e : ℕ) {ys : List ℕ} (m : ℕ) (h : ℕ → ℕ) → Filled a f d out → e ≡ a + k → e ≤ length d → m ≡ k → ys ≡ tabulate m h
+pub filled-part : {a : ℕ} {f : ℕ → ℕ} {d out : List ℕ} (k e : ℕ) {ys : List ℕ} (m : ℕ) (h : ℕ → ℕ) → Filled a f d out → e ≡ a + k → e ≤ length d → m ≡ k
+    → ys ≡ tabulate m h
     → ((j : ℕ) → j < k → h j ≡ f (a + j)) → Filled e f d (putMid a k out ys)
 filled-part {a} {f} k e m h i p l q y each =
     filled-block k e i p l (y ∙ ap (λ (n : ℕ). tabulate n h) q ∙ tabulate-ext k h (λ j. f (a + j)) each)

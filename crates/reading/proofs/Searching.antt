@@ -91,7 +91,8 @@ pub word-more : (N : ℕ) (cap : List ℕ) (w : ℕ) (s : WordTally) (b f c : �
 word-more N cap w s b f c e eb ef ec =
     let b′ : b ≡ first (isBeyond cap) (w + 1) = eb ∙ ap (λ (x : WordTally). soughtOf (x .beyond) w (isBeyond cap w)) e ∙ first-more (isBeyond cap) w in
     let f′ : f ≡ first (isFilled N cap) (w + 1) = ef ∙ ap (λ (x : WordTally). soughtOf (x .filler) w (isFilled N cap w)) e ∙ first-more (isFilled N cap) w in
-    let c′ : c ≡ count (isSeen cap) (w + 1) = ec ∙ ap (λ (x : WordTally). x .seen + cond (isSeen cap w) 1 0) e ∙ one-more (isSeen cap w) (count (isSeen cap) w) ∙ sym (count-more (isSeen cap) w) in
+    let c′ : c ≡ count (isSeen cap) (w + 1) = ec ∙ ap (λ (x : WordTally). x .seen + cond (isSeen cap w) 1 0) e
+    ∙ one-more (isSeen cap w) (count (isSeen cap) w) ∙ sym (count-more (isSeen cap) w) in
     rw (b′, f′, c′)
 
 pub words-none : (N : ℕ) (cap : List ℕ) → _≡_ {A = WordTally} (record { beyond = 0; filler = 0; seen = 0 }) (wordsTo N cap 0)

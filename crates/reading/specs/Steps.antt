@@ -17,8 +17,9 @@ use Rattle.crc.specs.Crc.{crcOf}
 use Rattle.scrambler.specs.Scrambler.{o}
 use Rattle.hamming.specs.Code.{joinedWord}
 use Rattle.matrix.specs.Sums.{positionTable}
-use Rattle.lent.specs.Lent.{byteTable}
-use Rattle.sizes.specs.Sizes.{infoBits, crcBits, mbasBits, parityBits, mbasFrom, parityFrom, fecBits, fecBlocks, padFrom, padBits, superBytes, infoLength, parityLength, captureLength, words}
+use Rattle.lent.specs.Steps.{byteTable}
+use Rattle.sizes.specs.Sizes.{infoBits, crcBits, mbasBits, parityBits, mbasFrom, parityFrom, fecBits, fecBlocks, padFrom, padBits, superBytes, infoLength}
+use Rattle.sizes.specs.Sizes.{parityLength, captureLength, words}
 use Rattle.line.specs.Fec.{mbasOf}
 use Rattle.line.specs.Frames.{infoOf, parityOf}
 use Rattle.line.specs.Words.{superIn, fecIn}

@@ -44,7 +44,8 @@ again = sym (laps-on 255 257 0 0xFFFF (sym starts)) ∙ around
 
 -- sixteen ones in the register
 ones-again : (j : ℕ) → j < 16 → o (period + j) ≡ 1
-ones-again j h = sym (digit-num 16 o period j o-lt h) ∙ ap (λ (x : ℕ). digit 16 x j) (again ∙ sym starts) ∙ digit-num 16 o 0 j o-lt h ∙ o-first (0 + j) (omega arith)
+ones-again j h = sym (digit-num 16 o period j o-lt h) ∙ ap (λ (x : ℕ). digit 16 x j) (again ∙ sym starts) ∙ digit-num 16 o 0 j o-lt h
+    ∙ o-first (0 + j) (omega arith)
 
 pub repeats : (n : ℕ) → o (period + n) ≡ o n
 repeats =

@@ -40,7 +40,8 @@ twice m r n =
     let b = shifted m r (n + 29 * m) (n + 28 * m) (n + 13 * (2 * m)) (n + 17 * m) (n + 13 * m) (omega arith) (omega arith) (omega arith) (omega arith) in
     let c = shifted m r (n + 20 * m) (n + 19 * m) (n + 17 * m) (n + 4 * (2 * m)) (n + 4 * m) (omega arith) (omega arith) (omega arith) (omega arith) in
     top ∙ (rw (a, b, c, r n)
-    (cancel (o (n + 15 * (2 * m))) (o (n + 28 * m)) (o (n + 19 * m)) (o (n + 15 * m)) (o (n + 13 * (2 * m))) (o (n + 17 * m)) (o (n + 13 * m)) (o (n + 4 * (2 * m))) (o (n + 4 * m)) (o n)))
+    (cancel (o (n + 15 * (2 * m))) (o (n + 28 * m)) (o (n + 19 * m)) (o (n + 15 * m)) (o (n + 13 * (2 * m))) (o (n + 17 * m)) (o (n + 13 * m))
+    (o (n + 4 * (2 * m))) (o (n + 4 * m)) (o n)))
 
 -- at strides of 1, 4, 16 and 64 bytes
 pub stride-1 : Rule 8
@@ -85,7 +86,8 @@ byte-sum s k r h =
     ∙ num-xor 8 (added (added a b) c) d 0 (added-lt (added a b) c) (since-lt (k - 16 * s))
     ∙ num-ext 8 (added (added (added a b) c) d) o 0 (8 * k)
     (λ j l. four (a (0 + j)) (b (0 + j)) (c (0 + j)) (d (0 + j))
-    ∙ sym (shifted (8 * s) r (8 * k + j) (8 * (k - s) + (0 + j)) (8 * (k - 3 * s) + (0 + j)) (8 * (k - 12 * s) + (0 + j)) (8 * (k - 16 * s) + (0 + j)) (omega arith) (omega arith) (omega arith) (omega arith))))
+    ∙ sym (shifted (8 * s) r (8 * k + j) (8 * (k - s) + (0 + j)) (8 * (k - 3 * s) + (0 + j)) (8 * (k - 12 * s) + (0 + j)) (8 * (k - 16 * s) + (0 + j))
+    (omega arith) (omega arith) (omega arith) (omega arith))))
 
 -- the same out of a buffer that has all bytes before it
 pub next-sum : (s k : ℕ) (f : ℕ → ℕ) → Rule (8 * s) → 1 ≤ s → 16 * s ≤ k → ((j : ℕ) → j < k → f j ≡ byteOf o j)

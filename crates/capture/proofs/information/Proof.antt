@@ -7,7 +7,8 @@ use Rattle.capture.proofs.information.Statement.{statement}
 use Rattle.capture.proofs.information.Tie as tie
 
 -- what the second question's answer 0 says
-shown : (c : tie.Then1) → Part (c .before .before .before .before .args .n) (c .before .before .before .before .args .t) (now (c .before .before .before .before .args .info))
+shown : (c : tie.Then1) → Part (c .before .before .before .before .args .n) (c .before .before .before .before .args .t)
+    (now (c .before .before .before .before .args .info))
 shown c =
     let a = c .before .before .before .before .args in
     let r = c .before .before .information-answer in
@@ -32,7 +33,10 @@ part-result-end : tie.Need-part-result-end
 part-result-end c = omega (arith, shown c)
 
 returns : tie.Need-returns
-returns c = let a = c .before .before .before .before .before .args in part-given (a .n) (a .t) (now (a .info)) (c .before .before .before .information-answer .ensures) (c .before .if1 .taken)
+returns c =
+    let at-information-answer = c .before .before .before in
+    let entry = at-information-answer .before .before in
+    let a = entry .args in part-given (a .n) (a .t) (now (a .info)) (at-information-answer .information-answer .ensures) (c .before .if1 .taken)
 
 sub-result-2 : tie.Need-sub-result-2
 sub-result-2 c = search needs
@@ -44,7 +48,10 @@ part-result-end-2 : tie.Need-part-result-end-2
 part-result-end-2 c = search needs
 
 returns-2 : tie.Need-returns-2
-returns-2 c = let a = c .before .before .before .before .before .args in part-empty (a .n) (a .t) (now (a .info)) (c .before .before .before .information-answer .ensures) (c .before .if1 .left)
+returns-2 c =
+    let at-information-answer = c .before .before .before in
+    let entry = at-information-answer .before .before in
+    let a = entry .args in part-empty (a .n) (a .t) (now (a .info)) (at-information-answer .information-answer .ensures) (c .before .if1 .left)
 
 pub information-spec : {M : Type 1} → statement M
 information-spec =

@@ -29,11 +29,13 @@ crc-requires c κs = search needs
 
 returns : tie.Need-returns
 returns c =
-    let s = c .before .before .before in
+    let at-before = c .before .before in
+    let s = at-before .before in
     let a = s .args in
-    let given = c .before .before .shared-slice-known .given in
+    let given = at-before .shared-slice-known .given in
     c .crc .ensures
-    ∙ block-part (now (a .table)) (now (a .info)) (a .t) (infoBytes * a .t + infoBytes - infoBytes * a .t) (s .pre .0) (λ k. given k .fits) (s .pre .1) (omega arith)
+    ∙ block-part (now (a .table)) (now (a .info)) (a .t) (infoBytes * a .t + infoBytes - infoBytes * a .t) (s .pre .0) (λ k. given k .fits) (s .pre .1)
+    (omega arith)
 
 pub block-crc-spec : {M : Type 1} → statement M
 block-crc-spec =

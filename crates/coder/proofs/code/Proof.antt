@@ -22,8 +22,10 @@ same-length c = search needs
 returns : tie.Need-returns
 unfolding codeAnswer codeLeaves
 returns c =
-    let j = c .before .before .before .before .before .before in
-    meets-done (now (j .before .before .before .before .args .capture)) (j .judge .ensures) (c .before .before .before .before .if1 .taken) (c .before .before .code-all .ensures)
+    let at-if = c .before .before .before .before in
+    let at-before = at-if .before in
+    let j = at-before .before in
+    meets-done (now (j .before .before .before .before .args .capture)) (j .judge .ensures) (at-if .if1 .taken) (c .before .before .code-all .ensures)
 
 returns-2 : tie.Need-returns-2
 unfolding codeAnswer codeLeaves

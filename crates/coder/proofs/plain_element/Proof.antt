@@ -30,7 +30,10 @@ word-from-requires : tie.Need-word-from-requires
 word-from-requires c κs = search needs
 
 returns-2 : tie.Need-returns-2
-returns-2 c = let a = c .before .before .before .before .before .args in plain-info (a .m0) (now (a .info)) (now (a .parity)) (c .word-from .result) (a .e) (c .before .before .if1 .left) (c .before .if2 .taken) (c .word-from .ensures)
+returns-2 c =
+    let entry = c .before .before .before .before .before in
+    let a = entry .args in plain-info (a .m0) (now (a .info)) (now (a .parity)) (c .word-from .result) (a .e) (c .before .before .if1 .left)
+    (c .before .if2 .taken) (c .word-from .ensures)
 
 mul-tail-element : tie.Need-mul-tail-element
 mul-tail-element c = search needs
@@ -48,9 +51,13 @@ tail-element-requires : tie.Need-tail-element-requires
 tail-element-requires c κs = (rw (c .mbas .ensures) (mbas-lt _ _), omega arith)
 
 returns-3 : tie.Need-returns-3
-returns-3 c = let s = c .before .before .before .before .before .before .before .before in
+returns-3 c =
+    let at-if = c .before .before .before in
+    let at-if-2 = at-if .before .before in
+    let at-before = at-if-2 .before .before in
+    let s = at-before .before in
     let a = s .args in
-    plain-tail (a .m0) (now (a .info)) (now (a .parity)) (c .tail-element .result) (a .e) (c .before .before .before .before .before .if1 .left) _ (c .before .mbas .result) (c .before .before .before .if3 .taken)
+    plain-tail (a .m0) (now (a .info)) (now (a .parity)) (c .tail-element .result) (a .e) (at-if-2 .if1 .left) _ (c .before .mbas .result) (at-if .if3 .taken)
     (s .pre .1 .is _ (omega arith)) (c .before .mbas .ensures) (c .tail-element .ensures)
 
 mul-word-from-3 : tie.Need-mul-word-from-3
@@ -69,7 +76,11 @@ word-from-requires-2 : tie.Need-word-from-requires-2
 word-from-requires-2 c κs = search needs
 
 returns-4 : tie.Need-returns-4
-returns-4 c = let a = c .before .before .before .before .before .before .args in plain-parity (a .m0) (now (a .info)) (now (a .parity)) (c .word-from2 .result) (a .e) (c .before .before .before .if1 .left) (omega arith) (c .word-from2 .ensures)
+returns-4 c =
+    let at-if = c .before .before .before in
+    let entry = at-if .before .before .before in
+    let a = entry .args in plain-parity (a .m0) (now (a .info)) (now (a .parity)) (c .word-from2 .result) (a .e) (at-if .if1 .left) (omega arith)
+    (c .word-from2 .ensures)
 
 pub plain-element-spec : {M : Type 1} → statement M
 plain-element-spec =

@@ -40,10 +40,12 @@ add-result c = search needs
 
 returns-2 : tie.Need-returns-2
 returns-2 c =
-    let a = c .before .before .before .before .args in
+    let entry = c .before .before .before .before in
+    let a = entry .args in
     let s = now (a .parity) in
     let e : 8 * a .k ≡ 32 = omega arith in
-    byte-mid (a .crc) (a .mbas) (from (bitAt s) (a .at)) (c .byte-from .result) (omega arith) (from-bits s (a .at)) (c .byte-from .ensures ∙ byte-start s (a .at))
+    byte-mid (a .crc) (a .mbas) (from (bitAt s) (a .at)) (c .byte-from .result) (omega arith) (from-bits s (a .at)) (c .byte-from .ensures
+    ∙ byte-start s (a .at))
     ∙ ap (num 8 (tailBit (a .crc) (a .mbas) (from (bitAt s) (a .at)))) (sym e)
 
 mul-byte-from : tie.Need-mul-byte-from
@@ -59,7 +61,9 @@ byte-from-requires-2 : tie.Need-byte-from-requires-2
 byte-from-requires-2 c κs = search needs
 
 returns-3 : tie.Need-returns-3
-returns-3 c = let a = c .before .before .before .before .args in c .byte-from2 .ensures ∙ byte-high (a .crc) (a .mbas) (now (a .parity)) (a .at) (a .k) (omega arith)
+returns-3 c =
+    let entry = c .before .before .before .before in
+    let a = entry .args in c .byte-from2 .ensures ∙ byte-high (a .crc) (a .mbas) (now (a .parity)) (a .at) (a .k) (omega arith)
 
 pub tail-byte-spec : {M : Type 1} → statement M
 tail-byte-spec =

@@ -19,8 +19,11 @@ holds-element-requires : tie.Need-holds-element-requires
 holds-element-requires c κs = search needs
 
 returns : tie.Need-returns
-returns c = let a = c .before .before .before .before .before .args in
-    word-filler (a .n) (fecBit (a .m0) (now (a .info)) (now (a .parity))) (a .w) (sym (c .before .holds-element .ensures) ∙ not-true (c .before .holds-element .result) (c .if1 .taken))
+returns c =
+    let entry = c .before .before .before .before .before in
+    let a = entry .args in
+    word-filler (a .n) (fecBit (a .m0) (now (a .info)) (now (a .parity))) (a .w) (sym (c .before .holds-element .ensures)
+    ∙ not-true (c .before .holds-element .result) (c .if1 .taken))
 
 element-in-requires : tie.Need-element-in-requires
 element-in-requires c κs = search needs
@@ -42,11 +45,19 @@ encode-by-requires : tie.Need-encode-by-requires
 encode-by-requires c κs = search needs
 
 returns-2 : tie.Need-returns-2
-returns-2 c = let s = c .before .before .before .before .before .before .before .before .before .before in
+returns-2 c =
+    let at-word-from = c .before .before in
+    let at-plain-element = at-word-from .before in
+    let at-element-in = at-plain-element .before in
+    let at-before = at-element-in .before .before .before .before .before in
+    let s = at-before .before in
     let a = s .args in
-    word-held (a .n) (fecBit (a .m0) (now (a .info)) (now (a .parity))) (a .w) (c .before .before .before .before .element-in .result) (now (a .sequence)) (now (a .table)) (now (a .tails))
-    (c .before .before .before .plain-element .result) (c .before .before .word-from .result) (c .before .sum .result) (c .encode-by .result) (holding (c .before .before .before .before .before)) (c .before .before .before .before .element-in .ensures)
-    (s .pre .0 .scrambles) (s .pre .0 .checks) (s .pre .0 .closes) (c .before .before .before .plain-element .ensures) (c .before .before .word-from .ensures) (c .before .sum .ensures) (c .encode-by .ensures)
+    word-held (a .n) (fecBit (a .m0) (now (a .info)) (now (a .parity))) (a .w) (at-element-in .element-in .result) (now (a .sequence)) (now (a .table))
+    (now (a .tails))
+    (at-plain-element .plain-element .result) (at-word-from .word-from .result) (c .before .sum .result) (c .encode-by .result)
+    (holding (at-element-in .before)) (at-element-in .element-in .ensures)
+    (s .pre .0 .scrambles) (s .pre .0 .checks) (s .pre .0 .closes) (at-plain-element .plain-element .ensures) (at-word-from .word-from .ensures)
+    (c .before .sum .ensures) (c .encode-by .ensures)
 
 pub word-spec : {M : Type 1} → statement M
 word-spec =

@@ -49,9 +49,12 @@ loop-less c = search loops
 
 loop-again : tie.Need-loop-again Inv-loop μ-loop
 loop-again c =
-    let h = c .before .before .before .before .loop in
-    let a = c .before .before .before .before .before .before .before .args in
-    filled-more (h .inv) (c .before .before .before .loop-test .taken) (c .eight-of .ensures ∙ num-two-from 8 (now (a .s)) (a .i) (h .k) _ _ (omega arith) refl refl)
+    let at-loop-test = c .before .before .before in
+    let at-loop = at-loop-test .before in
+    let entry = at-loop .before .before .before in
+    let h = at-loop .loop in
+    let a = entry .args in
+    filled-more (h .inv) (at-loop-test .loop-test .taken) (c .eight-of .ensures ∙ num-two-from 8 (now (a .s)) (a .i) (h .k) _ _ (omega arith) refl refl)
 
 same-length : tie.Need-same-length Inv-loop μ-loop
 same-length c = search loops

@@ -12,7 +12,9 @@ same-length : tie.Need-same-length
 same-length c = search needs
 
 returns : tie.Need-returns
-returns c = let a = c .before .before .before .before .before .before .before .args in code-demand-1 (a .n) (a .m0) (now (a .info)) (now (a .parity)) (now (a .capture)) (c .before .before .code .ensures)
+returns c =
+    let entry = c .before .before .before .before .before .before .before in
+    let a = entry .args in code-demand-1 (a .n) (a .m0) (now (a .info)) (now (a .parity)) (now (a .capture)) (c .before .before .code .ensures)
 
 pub code-spec : {M : Type 1} → statement M
 code-spec = tie.close (tie.spec code-requires same-length returns)

@@ -33,13 +33,16 @@ same-length-4 : tie.Need-same-length-4
 same-length-4 c = search needs
 
 returns-2 : tie.Need-returns-2
-returns-2 c = λ input long i₀ p₀.
-    let r = c .before .before .before .before in
+returns-2 c =
+    let at-before = c .before .before .before in
+    λ input long i₀ p₀.
+    let r = at-before .before in
     let d = r .before .before .before .before .before .before in
     let k = d .before .before .before .before .before .before in
     let a = k .before .before .before .before .before .before .before .before .args in
     let coded = coded-now (a .n) (a .m0) (now (a .info)) (now (a .parity)) (now (a .capture)) input long (k .code .ensures) .capture in
-    reads-back (a .n) (a .m0) (now (a .info)) (now (a .parity)) (now (a .flips)) _ _ (now (a .back)) (now (a .parity-back)) input coded (d .damage .ensures) i₀ p₀
+    reads-back (a .n) (a .m0) (now (a .info)) (now (a .parity)) (now (a .flips)) _ _ (now (a .back)) (now (a .parity-back)) input coded
+    (d .damage .ensures) i₀ p₀
     (r .read .ensures)
 
 pub code-damage-read-spec : {M : Type 1} → statement M

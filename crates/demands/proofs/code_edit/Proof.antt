@@ -27,12 +27,15 @@ same-length-3 : tie.Need-same-length-3
 same-length-3 c = search needs
 
 returns-2 : tie.Need-returns-2
-returns-2 c = λ input long e.
-    let d = c .before .before .before .before in
+returns-2 c =
+    let at-before = c .before .before .before in
+    λ input long e.
+    let d = at-before .before in
     let k = d .before .before .before .before .before .before .before in
     let a = k .before .before .before .before .before .before .before .before .args in
     let coded = coded-now (a .n) (a .m0) (now (a .info)) (now (a .parity)) (now (a .capture)) input long (k .code .ensures) .capture in
-    edits-as-coded (a .n) (a .m0) (a .block) (now (a .info)) (now (a .parity)) (now (a .bits)) (now (a .new-parity)) _ (now (a .list)) coded e (d .edit .ensures)
+    edits-as-coded (a .n) (a .m0) (a .block) (now (a .info)) (now (a .parity)) (now (a .bits)) (now (a .new-parity)) _ (now (a .list)) coded e
+    (d .edit .ensures)
 
 pub code-edit-spec : {M : Type 1} → statement M
 code-edit-spec =

@@ -10,7 +10,7 @@ use Rattle.bits.proofs.LoopLaws.{Folded, folded-none, folded-more, folded-all}
 use Rattle.line_order.specs.Order.{wordIn, putWord, replaceBy, lineOrder}
 use Rattle.capture.specs.Demand2.{hurt}
 use Rattle.demands.specs.Demands.{choiceOf}
-use Rattle.demands.specs.Hurt.{hurtBy, hurtBytes}
+use Rattle.demands.specs.Steps.{hurtBy, hurtBytes}
 use Rattle.demands.proofs.damage.Statement.{statement}
 use Rattle.demands.proofs.damage.Tie as tie
 
@@ -54,8 +54,7 @@ loop-again c =
     let h = p .before .before in
     let t = h .before in
     let l = t .before .before .before .before in
-    let a = l .before .before .before .args in
-    (
+    let a = l .before .before .before .args in (
       folded-more (l .loop .inv .0)
           (once (now (a .flips)) _ (l .loop .w) (t .before .word-in .ensures) (t .choice .ensures) (h .hurt-word .ensures) (p .put-word .ensures)),
       search needs,

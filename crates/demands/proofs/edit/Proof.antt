@@ -15,7 +15,10 @@ same-length-2 : tie.Need-same-length-2
 same-length-2 c = search needs
 
 returns : tie.Need-returns
-returns c = let a = c .before .before .before .before .before .before .before .before .before .before .before .args in edit-demand-1 (a .n) (a .block) (now (a .bits)) (now (a .parity)) (now (a .capture)) (now (a .list)) (c .before .before .before .before .edit .ensures)
+returns c =
+    let at-edit = c .before .before .before .before in
+    let entry = at-edit .before .before .before .before .before .before .before in
+    let a = entry .args in edit-demand-1 (a .n) (a .block) (now (a .bits)) (now (a .parity)) (now (a .capture)) (now (a .list)) (at-edit .edit .ensures)
 
 pub edit-spec : {M : Type 1} → statement M
 edit-spec = tie.close (tie.spec edit-requires same-length same-length-2 returns)

@@ -15,7 +15,10 @@ same-length-2 : tie.Need-same-length-2
 same-length-2 c = search needs
 
 returns : tie.Need-returns
-returns c = let a = c .before .before .before .before .before .before .before .before .before .before .args in read-demand-1 (a .n) (a .m0) (now (a .capture)) (now (a .info)) (now (a .parity)) (c .before .before .before .before .read .ensures)
+returns c =
+    let at-read = c .before .before .before .before in
+    let entry = at-read .before .before .before .before .before .before in
+    let a = entry .args in read-demand-1 (a .n) (a .m0) (now (a .capture)) (now (a .info)) (now (a .parity)) (at-read .read .ensures)
 
 pub read-spec : {M : Type 1} → statement M
 read-spec = tie.close (tie.spec read-requires same-length same-length-2 returns)

@@ -45,10 +45,13 @@ loop-less c = search needs
 
 loop-again : tie.Need-loop-again Inv-loop μ-loop
 loop-again c =
-    let h = c .before .before .before .loop in
-    let a = c .before .before .before .before .before .before .args in
+    let at-loop = c .before .before .before in
+    let entry = at-loop .before .before .before in
+    let h = at-loop .loop in
+    let a = entry .args in
     let x = c .before .changed-bit in
-    let small : x .result < 2 = rw (x .ensures) (change-bits (a .b) (now (a .bits)) (fecIn (wordIn (now (a .capture))) (fecOf (a .b))) (blockFrom (a .b) + h .j)) in (
+    let small : x .result < 2 = rw (x .ensures) (change-bits (a .b) (now (a .bits)) (fecIn (wordIn (now (a .capture))) (fecOf (a .b)))
+    (blockFrom (a .b) + h .j)) in (
       omega arith,
       rem-more (turned (a .b) (now (a .bits)) (now (a .capture))) (h .j) (h .inv .1) (x .ensures) (c .take .ensures ∙ ap (step (h .r)) (mod-eq-of-lt small)),
     )

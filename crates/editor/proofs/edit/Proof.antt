@@ -16,7 +16,8 @@ returns c =
     let j = c .before .before in
     let s = j .before in
     let a = s .before .before .before .before .before .args in
-    edit-refused (a .n) (a .block) (now (a .bits)) (now (a .parity)) (now (a .capture)) (now (a .list)) (s .spare-set .ensures) (j .judge .ensures) (c .if1 .taken)
+    edit-refused (a .n) (a .block) (now (a .bits)) (now (a .parity)) (now (a .capture)) (now (a .list)) (s .spare-set .ensures) (j .judge .ensures)
+    (c .if1 .taken)
 
 edit-checked-requires : tie.Need-edit-checked-requires
 edit-checked-requires c κs =

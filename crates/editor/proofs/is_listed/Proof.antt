@@ -38,7 +38,8 @@ returns-3 c =
     let f = t .before .before .before in
     let a = f .before .before .args in
     listed-untouched (a .n) (a .b) (a .w) (f .before .element-in .result - f .first-element .result) (omega arith)
-    (omega (arith, f .before .element-in .ensures, f .first-element .ensures)) (sym (t .holds-touched .ensures) ∙ not-true (t .holds-touched .result) (c .if3 .taken))
+    (omega (arith, f .before .element-in .ensures, f .first-element .ensures)) (sym (t .holds-touched .ensures)
+    ∙ not-true (t .holds-touched .result) (c .if3 .taken))
 
 holds-element-requires : tie.Need-holds-element-requires
 holds-element-requires c κs = search needs
@@ -50,7 +51,8 @@ returns-4 c =
     let a = f .before .before .args in
     c .holds-element .ensures
     ∙ listed-touched (a .n) (a .b) (a .w) (f .before .element-in .result - f .first-element .result) (omega arith)
-    (omega (arith, f .before .element-in .ensures, f .first-element .ensures)) (sym (t .holds-touched .ensures) ∙ not-false (t .holds-touched .result) (c .before .if3 .left))
+    (omega (arith, f .before .element-in .ensures, f .first-element .ensures)) (sym (t .holds-touched .ensures)
+    ∙ not-false (t .holds-touched .result) (c .before .if3 .left))
 
 pub is-listed-spec : {M : Type 1} → statement M
 is-listed-spec =

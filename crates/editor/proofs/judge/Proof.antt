@@ -22,7 +22,8 @@ inside c = ap not (sym (c .before .one-of .ensures)) ∙ c .if1 .left
 few : (c : tie.Else1) → c .before .before .args .n < 9
 few c =
     let a = c .before .before .args in
-    super-frames (a .n) (and-left (superAllowed (a .n)) (ltb (a .block) (blocksOf (a .n))) (not-false (superAllowed (a .n) && ltb (a .block) (blocksOf (a .n))) (inside c))) .few
+    super-frames (a .n) (and-left (superAllowed (a .n)) (ltb (a .block) (blocksOf (a .n)))
+    (not-false (superAllowed (a .n) && ltb (a .block) (blocksOf (a .n))) (inside c))) .few
 
 cast-one-of : tie.Need-cast-one-of
 cast-one-of c = search needs

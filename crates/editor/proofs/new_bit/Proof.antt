@@ -55,11 +55,12 @@ add-requires-2 c κs = search needs
 
 returns-4 : tie.Need-returns-4
 returns-4 c =
-    let t = c .before .before .before .before in
+    let at-before = c .before .before .before in
+    let t = at-before .before in
     let s = t .before .before .before .before .before in
     let a = s .args in
     c .add2 .ensures
-    ∙ ap₂ (λ (x y : ℕ). (x + y) % 2) (c .before .before .before .bit-at .ensures) (c .before .bit-at2 .ensures ∙ sequence-bit (now (a .scr)) (a .k) (s .pre))
+    ∙ ap₂ (λ (x y : ℕ). (x + y) % 2) (at-before .bit-at .ensures) (c .before .bit-at2 .ensures ∙ sequence-bit (now (a .scr)) (a .k) (s .pre))
     ∙ sym (new-parity-at (a .b) (now (a .bits)) (now (a .parity)) (a .crc) (a .k) (a .x) (a .p) (t .if3 .left))
 
 pub new-bit-spec : {M : Type 1} → statement M

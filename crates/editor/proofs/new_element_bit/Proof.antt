@@ -30,9 +30,11 @@ new-bit-requires c κs = search needs
 returns : tie.Need-returns
 unfolding newElement elementLocal
 returns c =
-    let a = c .before .before .before .before .before .args in
+    let entry = c .before .before .before .before .before in
+    let a = entry .args in
     c .new-bit .ensures
-    ∙ ap (newBit (a .b) (now (a .bits)) (now (a .parity)) (a .crc) (elementBits * (a .e % superElements % fecElements) + a .i) (elementBits * (a .e % superElements) + a .i)) (c .before .bit-at .ensures)
+    ∙ ap (newBit (a .b) (now (a .bits)) (now (a .parity)) (a .crc) (elementBits * (a .e % superElements % fecElements) + a .i)
+    (elementBits * (a .e % superElements) + a .i)) (c .before .bit-at .ensures)
 
 pub new-element-bit-spec : {M : Type 1} → statement M
 new-element-bit-spec =

@@ -21,7 +21,9 @@ add-if2 c = search needs
 
 returns-2 : tie.Need-returns-2
 unfolding newInfoBit
-returns-2 c = rw (block-past (c .before .before .before .args .b) (c .before .before .before .args .p) (c .if2 .taken))
+returns-2 c =
+    let entry = c .before .before .before in
+    rw (block-past (entry .args .b) (entry .args .p) (c .if2 .taken))
 
 bit-at-requires : tie.Need-bit-at-requires
 bit-at-requires c κs = search needs
@@ -35,11 +37,12 @@ add-requires c κs = search needs
 returns-3 : tie.Need-returns-3
 unfolding newInfoBit
 returns-3 c =
-    let t = c .before .before .before .before in
+    let at-before = c .before .before .before in
+    let t = at-before .before in
     let s = t .before .before .before in
     rw (block-in (s .args .b) (s .args .p) (t .before .if1 .left) (t .if2 .left))
     (c .add .ensures
-    ∙ ap₂ (λ (x y : ℕ). (x + y) % 2) (c .before .before .before .bit-at .ensures)
+    ∙ ap₂ (λ (x y : ℕ). (x + y) % 2) (at-before .bit-at .ensures)
     (c .before .bit-at2 .ensures ∙ sequence-bit (now (s .args .scr)) (s .args .k) (s .pre)))
 
 pub new-info-bit-spec : {M : Type 1} → statement M

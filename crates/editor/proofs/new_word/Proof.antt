@@ -48,13 +48,15 @@ encode-by-requires-2 c κs = search needs
 
 returns-2 : tie.Need-returns-2
 returns-2 c =
-    let e = c .before .before .before .before in
+    let at-before = c .before .before .before in
+    let e = at-before .before in
     let s = e .before .before .before in
     let a = s .args in
     c .encode-by2 .ensures
     ∙ by-word (now (a .t)) (now (a .tails)) (c .before .new-element .result) (s .pre .0 .checks) (s .pre .0 .closing)
     ∙ made-slowly (a .b) (now (a .bits)) (now (a .parity)) (a .crc) (a .w) (a .t9) (c .before .new-element .result)
-    (c .before .new-element .ensures ∙ ap (λ (x : ℕ). pack 16 (newElement (a .b) (now (a .bits)) (now (a .parity)) (a .crc) x (a .t9))) (e .element-in .ensures))
+    (c .before .new-element .ensures ∙ ap (λ (x : ℕ). pack 16 (newElement (a .b) (now (a .bits)) (now (a .parity)) (a .crc) x (a .t9)))
+    (e .element-in .ensures))
 
 pub new-word-spec : {M : Type 1} → statement M
 new-word-spec =

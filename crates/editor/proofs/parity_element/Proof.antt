@@ -30,10 +30,12 @@ sum-requires c κs = search needs
 returns : tie.Need-returns
 unfolding elementLocal
 returns c =
-    let s = c .before .before .before .before .before in
+    let at-word-from = c .before .before .before in
+    let at-before = at-word-from .before in
+    let s = at-before .before in
     let a = s .args in
     c .sum .ensures
-    ∙ parity-sum (now (a .parity)) (now (a .scr)) (a .e) _ _ (s .pre .0) (s .pre .2) (c .before .before .before .word-from .ensures) (c .before .word-from2 .ensures)
+    ∙ parity-sum (now (a .parity)) (now (a .scr)) (a .e) _ _ (s .pre .0) (s .pre .2) (at-word-from .word-from .ensures) (c .before .word-from2 .ensures)
 
 pub parity-element-spec : {M : Type 1} → statement M
 parity-element-spec =

@@ -11,7 +11,8 @@ use Rattle.editor.proofs.rewrite.Statement.{statement}
 use Rattle.editor.proofs.rewrite.Tie as tie
 
 abbrev Inv-loop : tie.InvT-loop
-Inv-loop n b bits parity scr t tails crc capture₀ list₀ c₀ w₀ w-end capture list c w = Passing n b bits parity capture₀ list₀ w capture list c × (w ≤ stretchTo b)
+Inv-loop n b bits parity scr t tails crc capture₀ list₀ c₀ w₀ w-end capture list c w = Passing n b bits parity capture₀ list₀ w capture list c
+    × (w ≤ stretchTo b)
 
 abbrev μ-loop : tie.MeasureT-loop
 μ-loop n b bits parity scr t tails crc capture₀ list₀ c₀ w₀ w-end capture list c w = stretchTo b - w
@@ -80,9 +81,15 @@ same-length c =
 
 same-length-2 : tie.Need-same-length-2 Inv-loop μ-loop
 same-length-2 c =
-    let s = c .before .before .before .before .before .before .before .before in
+    let at-before = c .before .before .before .before .before .before .before in
+    let s = at-before .before in
     let a = s .args in
-    omega (arith, passing-entries (a .n) (a .b) (now (a .bits)) (now (a .parity)) (now (a .capture)) (now (a .list)) (c .before .loop .inv .0) (s .pre .5), s .pre .5)
+    omega (
+      arith,
+      passing-entries (a .n) (a .b) (now (a .bits)) (now (a .parity)) (now (a .capture)) (now (a .list)) (c .before .loop .inv .0)
+          (s .pre .5),
+      s .pre .5,
+    )
 
 returns : tie.Need-returns Inv-loop μ-loop
 returns c =

@@ -44,13 +44,16 @@ returns c =
     let i = v .before .before .before in
     let s = i .before .before .before .before .before .before in
     let a = s .args in
-    turned-yes (a .n) (a .b) (now (a .bits)) (now (a .parity)) (a .crc) (a .w) (a .c) (now (a .capture)) (now (a .list)) (v .before .word-in .result) (v .new-word .result) _
+    turned-yes (a .n) (a .b) (now (a .bits)) (now (a .parity)) (a .crc) (a .w) (a .c) (now (a .capture)) (now (a .list)) (v .before .word-in .result)
+    (v .new-word .result) _
     (sym (i .before .is-listed .ensures) ∙ i .if1 .taken) (v .before .word-in .ensures) (v .new-word .ensures) (p .put-word .ensures)
 
 returns-2 : tie.Need-returns-2
 returns-2 c =
-    let a = c .before .before .before .before .before .before .args in
-    turned-no (a .n) (a .b) (now (a .bits)) (now (a .parity)) (a .crc) (a .w) (a .c) (now (a .capture)) (now (a .list)) (sym (c .before .is-listed .ensures) ∙ c .if1 .left)
+    let entry = c .before .before .before .before .before .before in
+    let a = entry .args in
+    turned-no (a .n) (a .b) (now (a .bits)) (now (a .parity)) (a .crc) (a .w) (a .c) (now (a .capture)) (now (a .list)) (sym (c .before .is-listed .ensures)
+    ∙ c .if1 .left)
 
 pub turn-spec : {M : Type 1} → statement M
 turn-spec =

@@ -50,9 +50,10 @@ loop-less c = search needs
 loop-again : tie.Need-loop-again Inv-loop μ-loop
 unfolding taken columnOf
 loop-again c =
-    let l = c .before .before .before .before in
+    let at-before = c .before .before .before in
+    let l = at-before .before in
     let a = l .before in
-    summed-more (l .loop .inv) (c .before .before .before .loop-test .taken)
+    summed-more (l .loop .inv) (at-before .loop-test .taken)
     (c .times .ensures
     ∙ ap₂ _*_ (c .before .before .digit-of .ensures) (ap (λ (t : List ℕ). getD t (8 * a .args .k + l .loop .j) 0) (a .pre .0)))
 

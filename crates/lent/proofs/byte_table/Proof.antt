@@ -4,7 +4,7 @@ use mathlib.Core.Path.{refl}
 use native.Mathlib.Omega.{arith}
 use borrow.Author.Needs.{needs}
 use Rattle.sizes.specs.Sizes.{wordBytes}
-use Rattle.lent.specs.Doubling.{Begun}
+use Rattle.lent.specs.Steps.{Begun}
 use Rattle.lent.proofs.Doubling.{begun-none, begun-to, begun-all}
 use Rattle.lent.proofs.byte_table.Statement.{statement}
 use Rattle.lent.proofs.byte_table.Tie as tie

@@ -3,7 +3,7 @@ use Prim.Native.Nat.{_-_}
 use borrow.Author.Needs.{needs}
 use Rattle.sizes.specs.Sizes.{wordBytes}
 use Rattle.matrix.specs.Sums.{taken}
-use Rattle.lent.specs.Lent.{entryAt, sumBy}
+use Rattle.lent.specs.Steps.{entryAt, sumBy}
 use Rattle.matrix.proofs.Sums.{Summed, summed-none, summed-more, summed-all}
 use Rattle.lent.proofs.checks_by.Statement.{statement}
 use Rattle.lent.proofs.checks_by.Tie as tie

@@ -2,7 +2,7 @@
 use Prim.Native.Nat.{_+_, _-_, _*_, _≤_}
 use native.Mathlib.Omega.{arith}
 use borrow.Author.Needs.{needs}
-use Rattle.lent.specs.Doubling.{Begun}
+use Rattle.lent.specs.Steps.{Begun}
 use Rattle.lent.proofs.Doubling.{begun-to, begun-double}
 use Rattle.lent.proofs.double.Statement.{statement}
 use Rattle.lent.proofs.double.Tie as tie
@@ -46,8 +46,11 @@ loop-less c = search needs
 loop-again : tie.Need-loop-again Inv-loop μ-loop
 loop-again c =
     let l = c .before .before in
-    let a = l .before in
-    (omega arith, begun-double (a .args .at) (a .args .n) (a .args .c) (l .loop .r) (l .loop .t) (a .pre .1) (l .loop .inv .1) (c .before .loop-test .taken) (a .pre .0))
+    let a = l .before in (
+      omega arith,
+      begun-double (a .args .at) (a .args .n) (a .args .c) (l .loop .r) (l .loop .t) (a .pre .1) (l .loop .inv .1) (c .before .loop-test .taken)
+          (a .pre .0),
+    )
 
 returns : tie.Need-returns Inv-loop μ-loop
 returns c =

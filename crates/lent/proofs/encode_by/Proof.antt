@@ -6,7 +6,7 @@ use borrow.Author.Needs.{needs}
 use lib.ListN.{getD}
 use Rattle.bits.specs.Bits.{bitAt}
 use Rattle.hamming.specs.Code.{joinedWord}
-use Rattle.lent.specs.Lent.{sumBy, wordBy}
+use Rattle.lent.specs.Steps.{sumBy, wordBy}
 use Rattle.lent.proofs.encode_by.Statement.{statement}
 use Rattle.lent.proofs.encode_by.Tie as tie
 

@@ -6,7 +6,7 @@ use native.Mathlib.Omega.{arith}
 use borrow.Author.Needs.{needs}
 use lib.ListN.{getD}
 use Rattle.matrix.specs.Columns.{columnOf}
-use Rattle.lent.specs.Doubling.{Begun}
+use Rattle.lent.specs.Steps.{Begun}
 use Rattle.lent.proofs.Doubling.{begun-to, begun-row, row-room, row-next, row-doubles}
 use Rattle.lent.proofs.fill_row.Statement.{statement}
 use Rattle.lent.proofs.fill_row.Tie as tie

@@ -6,7 +6,7 @@ use denote.Ref.{now}
 use lib.ListN.{getD}
 use borrow.Author.Needs.{needs}
 use Rattle.sizes.specs.Sizes.{groupWords}
-use Rattle.lent.specs.Lent.{entryAt, sumBy}
+use Rattle.lent.specs.Steps.{entryAt, sumBy}
 use Rattle.matrix.proofs.Sums.{Summed, summed-none, summed-more, summed-all}
 use Rattle.line_order.specs.Order.{groupSize, symbolPlace, wordIn}
 use Rattle.line_order.proofs.OrderLaws.{word-symbol, place-group}

@@ -28,7 +28,10 @@ loop-less : tie.Need-loop-less Inv-loop μ-loop
 loop-less c = search loops
 
 loop-again : tie.Need-loop-again Inv-loop μ-loop
-loop-again c = passed-more (c .before .before .loop .inv) (c .before .loop-test .taken) (some-none (c .before .before .before .args .t1) (c .before .before .loop .k) (c .if1 .left))
+loop-again c =
+    let at-loop = c .before .before in
+    let entry = at-loop .before in
+    passed-more (at-loop .loop .inv) (c .before .loop-test .taken) (some-none (entry .args .t1) (at-loop .loop .k) (c .if1 .left))
 
 returns-2 : tie.Need-returns-2 Inv-loop μ-loop
 returns-2 c = some-all (c .before .before .args .t1) (search needs) (c .before .loop .inv) (c .loop-test .left)

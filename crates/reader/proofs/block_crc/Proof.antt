@@ -27,9 +27,12 @@ crc-requires c κs = search needs
 
 returns : tie.Need-returns
 returns c =
-    let s = c .before .before .before .before .before .before in
+    let at-copy = c .before .before .before in
+    let at-before = at-copy .before .before in
+    let s = at-before .before in
     let a = s .args in
-    c .crc .ensures ∙ crc-packed (now (a .crcs)) _ infoBytes (from (bitAt (now (a .s))) (fecBits * a .b)) (λ i. bitOf-lt 8 (now (a .s)) (fecBits * a .b + i)) (s .pre .0) (c .before .before .before .copy .ensures)
+    c .crc .ensures ∙ crc-packed (now (a .crcs)) _ infoBytes (from (bitAt (now (a .s))) (fecBits * a .b))
+    (λ i. bitOf-lt 8 (now (a .s)) (fecBits * a .b + i)) (s .pre .0) (at-copy .copy .ensures)
 
 pub block-crc-spec : {M : Type 1} → statement M
 block-crc-spec =

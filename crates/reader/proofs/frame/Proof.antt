@@ -19,7 +19,8 @@ use Rattle.reader.proofs.frame.Statement.{statement}
 use Rattle.reader.proofs.frame.Tie as tie
 
 abbrev Inv-loop : tie.InvT-loop
-Inv-loop t positions scr capture f out₀ here₀ l₀ out here l = Filled (startOf l) (byteOf (superIn (repaired capture) f)) out₀ out × (here ≡ repaired capture (slotOf (superElements * f + l))) × (l ≤ superElements)
+Inv-loop t positions scr capture f out₀ here₀ l₀ out here l = Filled (startOf l) (byteOf (superIn (repaired capture) f)) out₀ out
+    × (here ≡ repaired capture (slotOf (superElements * f + l))) × (l ≤ superElements)
 
 abbrev μ-loop : tie.MeasureT-loop
 μ-loop t positions scr capture f out₀ here₀ l₀ out here l = superElements - l
@@ -31,7 +32,9 @@ element-requires : tie.Need-element-requires Inv-loop μ-loop
 element-requires c κs = search needs
 
 loop-holds : tie.Need-loop-holds Inv-loop μ-loop
-loop-holds c = (filled-none, c .element .ensures ∙ ap (λ (e : ℕ). repaired (now (c .before .before .before .before .args .capture)) (slotOf e)) (omega arith), omega arith)
+loop-holds c =
+    let entry = c .before .before .before .before in
+    (filled-none, c .element .ensures ∙ ap (λ (e : ℕ). repaired (now (entry .args .capture)) (slotOf e)) (omega arith), omega arith)
 
 mul-element-2 : tie.Need-mul-element-2 Inv-loop μ-loop
 mul-element-2 c = search needs
@@ -97,18 +100,25 @@ loop-less c = search needs
 
 loop-again : tie.Need-loop-again Inv-loop μ-loop
 loop-again c =
-    let h = c .before .before .before .before .before .before .before .before .loop in
-    let s = c .before .before .before .before .before .before .before .before .before .before .before .before .before in
+    let at-follow = c .before .before .before .before .before in
+    let at-element = at-follow .before in
+    let at-loop-test = at-element .before in
+    let at-loop = at-loop-test .before in
+    let at-before = at-loop .before .before .before .before in
+    let h = at-loop .loop in
+    let s = at-before .before in
     let a = s .args in
     let k = startOf (h .l + 1) - startOf (h .l) in
     let cap = now (a .capture) in
     let scr = now (a .scr) in
-    let v = c .before .before .before .before .before .follow in
-    let e = c .before .before .before .before .before .before .element2 .ensures in
+    let v = at-follow .follow in
+    let e = at-element .element2 .ensures in
     let len : length (take k (drop (startOf (h .l)) (h .out))) ≡ k = part-long (startOf (h .l)) k (h .out) (omega arith) in (
-      filled-part k (startOf (h .l + 1)) (length (take k (drop (startOf (h .l)) (h .out)))) (plainByte (v .result) (h .l % 8) (take k (drop (startOf (h .l)) scr)))
+      filled-part k (startOf (h .l + 1)) (length (take k (drop (startOf (h .l)) (h .out))))
+          (plainByte (v .result) (h .l % 8) (take k (drop (startOf (h .l)) scr)))
           (h .inv .0) (omega arith) (omega arith) len (c .before .before .put-bytes .ensures)
-          (λ j l. element-byte cap scr (v .result) (a .f) (h .l) k j (s .pre .1) (v .ensures ∙ ap₂ followed (h .inv .1) e) (c .before .before .before .before .before .before .before .loop-test .taken) refl l),
+          (λ j l. element-byte cap scr (v .result) (a .f) (h .l) k j (s .pre .1) (v .ensures
+          ∙ ap₂ followed (h .inv .1) e) (at-loop-test .loop-test .taken) refl l),
       e,
       omega arith,
     )

@@ -42,10 +42,13 @@ word-from-requires c κs = search loops
 
 returns : tie.Need-returns Inv-loop μ-loop
 returns c =
-    let h = c .before .before .before .loop in
-    let a = c .before .before .before .before .args in
+    let at-loop = c .before .before .before in
+    let entry = at-loop .before in
+    let h = at-loop .loop in
+    let a = entry .args in
     c .word-from .ensures
-    ∙ zeros-behind (a .t1) (h .w) _ (a .i) (omega arith) (search loops) (filled-to 16 (h .inv .0) (omega (arith, h .inv .1, c .before .before .loop-test .left))) refl
+    ∙ zeros-behind (a .t1) (h .w) _ (a .i) (omega arith) (search loops)
+    (filled-to 16 (h .inv .0) (omega (arith, h .inv .1, c .before .before .loop-test .left))) refl
 
 pub from-bit-spec : {M : Type 1} → statement M
 from-bit-spec =

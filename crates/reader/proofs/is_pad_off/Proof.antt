@@ -27,9 +27,11 @@ byte-from-requires c κs = search loops
 
 returns : tie.Need-returns Inv-loop μ-loop
 returns c =
-    let l = c .before .before .before in
+    let at-before = c .before .before in
+    let l = at-before .before in
     let s = l .before .before in
-    pad-here (now (s .args .s)) (l .loop .k) (c .before .byte-from .result) (s .pre) (c .before .before .loop-test .taken) (c .before .byte-from .ensures) (c .if1 .taken)
+    pad-here (now (s .args .s)) (l .loop .k) (c .before .byte-from .result) (s .pre) (at-before .loop-test .taken) (c .before .byte-from .ensures)
+    (c .if1 .taken)
 
 add-k : tie.Need-add-k Inv-loop μ-loop
 add-k c = search loops

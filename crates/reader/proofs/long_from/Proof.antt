@@ -53,9 +53,10 @@ add-result-3 c = search needs
 
 returns : tie.Need-returns
 returns c =
-    let w = c .before .before .before .before in
+    let at-before = c .before .before .before in
+    let w = at-before .before in
     let a = w .before .before .args in
-    rw (c .before .before .before .wide .ensures .same, c .before .before .wide2 .ensures .same, c .before .wide3 .ensures .same, c .wide4 .ensures .same)
+    rw (at-before .wide .ensures .same, c .before .before .wide2 .ensures .same, c .before .wide3 .ensures .same, c .wide4 .ensures .same)
     (long-of (bitAt (now (a .s))) (a .at) (w .word-from .result) (w .word-from .ensures))
 
 pub long-from-spec : {M : Type 1} → statement M

@@ -22,9 +22,13 @@ same-length-2 c = search needs
 
 returns : tie.Need-returns
 returns c =
-    let a = c .before .before .before .before .before .before .before .before .before .before .before .before .before .args in
-    let j = c .before .before .before .before .before .before .before .before .before .judge in
-    read-late (a .n) (a .m0) (now (a .capture)) (now (a .info)) (now (a .parity)) (j .ensures) (c .before .before .before .before .before .before .before .if1 .taken) (c .before .before .before .before .read-accepted .ensures)
+    let at-read-accepted = c .before .before .before .before in
+    let at-if = at-read-accepted .before .before .before in
+    let at-judge = at-if .before .before in
+    let entry = at-judge .before .before .before .before in
+    let a = entry .args in
+    let j = at-judge .judge in
+    read-late (a .n) (a .m0) (now (a .capture)) (now (a .info)) (now (a .parity)) (j .ensures) (at-if .if1 .taken) (at-read-accepted .read-accepted .ensures)
 
 returns-2 : tie.Need-returns-2
 returns-2 c =

@@ -19,7 +19,8 @@ verdict-requires c κs = search needs
 
 write-frames-requires : tie.Need-write-frames-requires
 write-frames-requires c κs =
-    let s = c .before .before .before .before .before .before .before .before .before .before .before .before .before .before .before .before .pre in (s .0, s .1, s .3 .few, search needs, s .3 .information, s .3 .parity)
+    let at-pre = c .before .before .before .before .before .before .before .before .before .before .before .before .before .before .before .before in
+    let s = at-pre .pre in (s .0, s .1, s .3 .few, search needs, s .3 .information, s .3 .parity)
 
 same-length : tie.Need-same-length
 same-length c = search needs
@@ -32,19 +33,31 @@ same-length-3 c = search needs
 
 returns : tie.Need-returns
 returns c =
-    let a = c .before .before .before .before .before .before .before .before .before .before .before .before .before .before .before .before .before .before .before .before .before .before .before .args in
-    let w = c .before .before .before .before .before .before .write-frames .ensures in
-    late-done (a .n) (a .m0) (now (a .capture)) (now (a .info)) (now (a .parity)) (c .before .before .before .before .before .before .before .before .before .before .before .before .before .before .before .before .before .tally-words .result) (c .before .before .before .before .before .before .before .before .before .before .before .before .before .before .before .tally-frames .result) (c .before .before .before .before .before .before .before .before .before .before .before .before .verdict .result)
-    (c .before .before .before .before .before .before .before .before .before .before .before .before .before .before .before .before .before .tally-words .ensures) (c .before .before .before .before .before .before .before .before .before .before .before .before .before .before .before .tally-frames .ensures) (c .before .before .before .before .before .before .before .before .before .before .before .before .verdict .ensures) _ _ (c .before .before .before .before .before .before .before .before .before .before .if1 .taken) (w .0) (w .1)
+    let at-write-frames = c .before .before .before .before .before .before in
+    let at-if = at-write-frames .before .before .before .before in
+    let at-verdict = at-if .before .before in
+    let at-tally-frames = at-verdict .before .before .before in
+    let at-tally-words = at-tally-frames .before .before in
+    let entry = at-tally-words .before .before .before .before .before .before in
+    let a = entry .args in
+    let w = at-write-frames .write-frames .ensures in
+    late-done (a .n) (a .m0) (now (a .capture)) (now (a .info)) (now (a .parity)) (at-tally-words .tally-words .result)
+    (at-tally-frames .tally-frames .result) (at-verdict .verdict .result)
+    (at-tally-words .tally-words .ensures) (at-tally-frames .tally-frames .ensures) (at-verdict .verdict .ensures) _ _ (at-if .if1 .taken) (w .0) (w .1)
 
 same-length-4 : tie.Need-same-length-4
 same-length-4 c = search needs
 
 returns-2 : tie.Need-returns-2
 returns-2 c =
-    let a = c .before .before .before .before .before .before .before .before .before .before .before .before .before .args in
-    late-refused (a .n) (a .m0) (now (a .capture)) (now (a .info)) (now (a .parity)) (c .before .before .before .before .before .before .before .tally-words .result) (c .before .before .before .before .before .tally-frames .result) (c .before .before .verdict .result)
-    (c .before .before .before .before .before .before .before .tally-words .ensures) (c .before .before .before .before .before .tally-frames .ensures) (c .before .before .verdict .ensures) (c .if1 .left)
+    let at-verdict = c .before .before in
+    let at-tally-frames = at-verdict .before .before .before in
+    let at-tally-words = at-tally-frames .before .before in
+    let entry = at-tally-words .before .before .before .before .before .before in
+    let a = entry .args in
+    late-refused (a .n) (a .m0) (now (a .capture)) (now (a .info)) (now (a .parity)) (at-tally-words .tally-words .result)
+    (at-tally-frames .tally-frames .result) (at-verdict .verdict .result)
+    (at-tally-words .tally-words .ensures) (at-tally-frames .tally-frames .ensures) (at-verdict .verdict .ensures) (c .if1 .left)
 
 pub read-by-spec : {M : Type 1} → statement M
 read-by-spec =

@@ -24,10 +24,13 @@ same-length c = search needs
 
 returns : tie.Need-returns
 returns c =
-    let s = c .before .before .before .before .before .before .before .before .before .before .before .before in
+    let at-take-blocks = c .before .before .before in
+    let at-frame = at-take-blocks .before .before .before .before in
+    let at-before = at-frame .before .before .before .before in
+    let s = at-before .before in
     let a = s .args in
-    let y = c .before .before .before .take-blocks in
-    frame-more (a .m0) (now (a .capture)) _ (a .f) (a .x) (y .result) (c .sought .result) (c .before .before .before .before .before .before .before .frame .ensures) (s .pre .5) (y .ensures)
+    let y = at-take-blocks .take-blocks in
+    frame-more (a .m0) (now (a .capture)) _ (a .f) (a .x) (y .result) (c .sought .result) (at-frame .frame .ensures) (s .pre .5) (y .ensures)
     (c .sought .ensures ∙ ap (soughtOf (y .result .pad) (a .f)) (c .before .is-pad-off .ensures))
 
 pub take-frame-spec : {M : Type 1} → statement M

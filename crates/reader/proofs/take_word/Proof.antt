@@ -39,7 +39,8 @@ returns c =
     let cap = now (a .capture) in
     let x = k .checks .result in
     let t = sym (i .before .is-plain .ensures) ∙ i .if1 .taken in
-    let p = plain-word (a .n) cap (a .w) (sym (k .checks .ensures) ∙ eqb-true x 0 (and-left (eqb x 0) (holds (a .n) (a .w)) t)) (and-right (eqb x 0) (holds (a .n) (a .w)) t) in
+    let p = plain-word (a .n) cap (a .w) (sym (k .checks .ensures) ∙ eqb-true x 0 (and-left (eqb x 0) (holds (a .n) (a .w)) t))
+    (and-right (eqb x 0) (holds (a .n) (a .w)) t) in
     word-more (a .n) cap (a .w) (a .s) _ _ _ (s .pre .2)
     (c .before .sought .ensures ∙ ap (soughtOf (a .s .beyond) (a .w)) (sym (p .not-beyond)))
     (c .sought2 .ensures ∙ ap (soughtOf (a .s .filler) (a .w)) (sym (p .not-filled)))
@@ -80,15 +81,23 @@ add-t22 c =
 
 returns-2 : tie.Need-returns-2
 returns-2 c =
-    let s = c .before .before .before .before .before .before .before .before .before .before .before .before .before .before in
+    let at-sought = c .before .before .before in
+    let at-is-filled = at-sought .before in
+    let at-sought-2 = at-is-filled .before in
+    let at-number = at-sought-2 .before in
+    let at-repair-word = at-number .before .before in
+    let at-word-in = at-repair-word .before in
+    let at-before = at-word-in .before .before .before .before in
+    let s = at-before .before in
     let a = s .args in
     let cap = now (a .capture) in
-    let r = c .before .before .before .before .before .before .before .before .repair-word .result in
-    let e : r ≡ repairOf (wordIn cap (a .w)) = c .before .before .before .before .before .before .before .before .repair-word .ensures ∙ ap repairOf (c .before .before .before .before .before .before .before .before .before .word-in .ensures) in
+    let r = at-repair-word .repair-word .result in
+    let e : r ≡ repairOf (wordIn cap (a .w)) = at-repair-word .repair-word .ensures ∙ ap repairOf (at-word-in .word-in .ensures) in
     word-more (a .n) cap (a .w) (a .s) _ _ _ (s .pre .2)
-    (c .before .before .before .before .before .sought3 .ensures ∙ ap (soughtOf (a .s .beyond) (a .w)) (beyond-is cap (a .w) r _ e (c .before .before .before .before .before .before .number .ensures)))
-    (c .before .before .before .sought4 .ensures ∙ ap (soughtOf (a .s .filler) (a .w)) (c .before .before .before .before .is-filled .ensures ∙ filled-is (a .n) cap (a .w) r e))
-    (ap (λ (x : ℕ). a .s .seen + x) (c .before .one-if .ensures .is ∙ ap (λ (b : Bool). cond b 1 0) (c .before .before .is-found .ensures ∙ seen-as cap (a .w) r e)))
+    (at-sought-2 .sought3 .ensures ∙ ap (soughtOf (a .s .beyond) (a .w)) (beyond-is cap (a .w) r _ e (at-number .number .ensures)))
+    (at-sought .sought4 .ensures ∙ ap (soughtOf (a .s .filler) (a .w)) (at-is-filled .is-filled .ensures ∙ filled-is (a .n) cap (a .w) r e))
+    (ap (λ (x : ℕ). a .s .seen + x) (c .before .one-if .ensures .is ∙ ap (λ (b : Bool). cond b 1 0) (c .before .before .is-found .ensures
+    ∙ seen-as cap (a .w) r e)))
 
 pub take-word-spec : {M : Type 1} → statement M
 take-word-spec =

@@ -13,7 +13,8 @@ use Rattle.reader.proofs.write_blocks.Statement.{statement}
 use Rattle.reader.proofs.write_blocks.Tie as tie
 
 abbrev Inv-loop : tie.InvT-loop
-Inv-loop s info₀ parity₀ b₀ info parity b = Filled (infoBytes * b) (byteOf (infoIn s)) info₀ info × Filled (parityBytes * b) (byteOf (parityIn s)) parity₀ parity × (b ≤ 5)
+Inv-loop s info₀ parity₀ b₀ info parity b = Filled (infoBytes * b) (byteOf (infoIn s)) info₀ info
+    × Filled (parityBytes * b) (byteOf (parityIn s)) parity₀ parity × (b ≤ 5)
 
 abbrev μ-loop : tie.MeasureT-loop
 μ-loop s info₀ parity₀ b₀ info parity b = 5 - b
@@ -74,16 +75,20 @@ loop-less c = search needs
 
 loop-again : tie.Need-loop-again Inv-loop μ-loop
 loop-again c =
-    let h = c .before .before .before .before .before .before .before .before .before .loop in
-    let s = now (c .before .before .before .before .before .before .before .before .before .before .before .before .before .args .s) in
+    let at-copy = c .before .before .before .before .before .before in
+    let at-loop = at-copy .before .before .before in
+    let entry = at-loop .before .before .before .before in
+    let h = at-loop .loop in
+    let s = now (entry .args .s) in
     let i = infoBytes * h .b in
     let p = parityBytes * h .b in
     let ki = i + infoBytes - i in
     let kp = p + parityBytes - p in (
       filled-part ki (infoBytes * (h .b + 1)) (length (take ki (drop i (h .info)))) (byteOf (from (bitAt s) (fecBits * h .b)))
-          (h .inv .0) (omega arith) (omega arith) (part-long i ki (h .info) (omega arith)) (c .before .before .before .before .before .before .copy .ensures) (λ j l. info-byte s (h .b) j (omega arith)),
+          (h .inv .0) (omega arith) (omega arith) (part-long i ki (h .info) (omega arith)) (at-copy .copy .ensures) (λ j l. info-byte s (h .b) j (omega arith)),
       filled-part kp (parityBytes * (h .b + 1)) (length (take kp (drop p (h .parity)))) (byteOf (from (bitAt s) (fecBits * h .b + parityFrom)))
-          (h .inv .1) (omega arith) (omega arith) (part-long p kp (h .parity) (omega arith)) (c .before .before .copy2 .ensures) (λ j l. parity-byte s (h .b) j (omega arith)),
+          (h .inv .1) (omega arith) (omega arith) (part-long p kp (h .parity) (omega arith)) (c .before .before .copy2 .ensures)
+          (λ j l. parity-byte s (h .b) j (omega arith)),
       omega arith,
     )
 

@@ -16,7 +16,9 @@ use Rattle.reader.proofs.write_frames.Statement.{statement}
 use Rattle.reader.proofs.write_frames.Tie as tie
 
 abbrev Inv-loop : tie.InvT-loop
-Inv-loop t positions scr n capture buffer₀ info₀ parity₀ f₀ buffer info parity f = Filled (superInfoBytes * f) (byteOf (infoAll (fecIn (repaired capture)))) info₀ info × Filled (superParityBytes * f) (byteOf (parityAll (fecIn (repaired capture)))) parity₀ parity × (f ≤ n) × (length buffer ≡ superBytes)
+Inv-loop t positions scr n capture buffer₀ info₀ parity₀ f₀ buffer info parity f = Filled (superInfoBytes * f)
+    (byteOf (infoAll (fecIn (repaired capture)))) info₀ info × Filled (superParityBytes * f) (byteOf (parityAll (fecIn (repaired capture)))) parity₀ parity
+    × (f ≤ n) × (length buffer ≡ superBytes)
 
 abbrev μ-loop : tie.MeasureT-loop
 μ-loop t positions scr n capture buffer₀ info₀ parity₀ f₀ buffer info parity f = n - f
@@ -68,15 +70,21 @@ loop-less c = search needs
 
 loop-again : tie.Need-loop-again Inv-loop μ-loop
 loop-again c =
-    let h = c .before .before .before .before .before .before .before .before .before .before .before .before .before .loop in
-    let a = c .before .before .before .before .before .before .before .before .before .before .before .before .before .before .before .before .before .before .before .args in
+    let at-write-blocks = c .before .before .before .before in
+    let at-frame = at-write-blocks .before .before .before .before .before .before in
+    let at-loop = at-frame .before .before .before in
+    let entry = at-loop .before .before .before .before .before .before in
+    let h = at-loop .loop in
+    let a = entry .args in
     let cap = now (a .capture) in
     let i = superInfoBytes * h .f in
     let p = superParityBytes * h .f in
-    let e = c .before .before .before .before .before .before .before .before .before .before .frame .ensures in
-    let w = c .before .before .before .before .write-blocks .ensures in (
-      filled-part (i + superInfoBytes - i) (superInfoBytes * (h .f + 1)) superInfoBytes _ (h .inv .0) (omega arith) (omega arith) (omega arith) (w .0) (λ j l. info-whole cap _ (h .f) j e (omega arith)),
-      filled-part (p + superParityBytes - p) (superParityBytes * (h .f + 1)) superParityBytes _ (h .inv .1) (omega arith) (omega arith) (omega arith) (w .1) (λ j l. parity-whole cap _ (h .f) j e (omega arith)),
+    let e = at-frame .frame .ensures in
+    let w = at-write-blocks .write-blocks .ensures in (
+      filled-part (i + superInfoBytes - i) (superInfoBytes * (h .f + 1)) superInfoBytes _ (h .inv .0) (omega arith) (omega arith) (omega arith) (w .0)
+          (λ j l. info-whole cap _ (h .f) j e (omega arith)),
+      filled-part (p + superParityBytes - p) (superParityBytes * (h .f + 1)) superParityBytes _ (h .inv .1) (omega arith) (omega arith) (omega arith) (w .1)
+          (λ j l. parity-whole cap _ (h .f) j e (omega arith)),
       omega arith,
       search needs,
     )

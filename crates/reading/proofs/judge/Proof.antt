@@ -56,8 +56,9 @@ refuse-length-requires-3 c κs = search needs
 returns-2 : tie.Need-returns-2
 unfolding readEarlyRows inTurn rowThen faultsThen
 returns-2 c =
-    let g = c .before .before .before in
-    rw (in-turn, inside (g .before), c .refuse-length3 .ensures, c .before .refuse-length2 .ensures, c .before .before .refuse-length .ensures, g .granted .ensures)
+    let at-before = c .before .before in
+    let g = at-before .before in
+    rw (in-turn, inside (g .before), c .refuse-length3 .ensures, c .before .refuse-length2 .ensures, at-before .refuse-length .ensures, g .granted .ensures)
 
 pub judge-spec : {M : Type 1} → statement M
 judge-spec =

@@ -1,4 +1,5 @@
--- `run_lines::print_runs` is safe and ends: a run ends at or behind the place asked for, and the measure is the number of places that are left. Assumes nothing.
+-- `run_lines::print_runs` is safe and ends: a run ends at or behind the place asked for, and the measure is the number of places that are left. Assumes
+-- nothing.
 use Prim.Native.Nat.{_-_, _≤_}
 use native.Mathlib.Omega.{arith}
 use Rattle.gmp.specs.Steps.{Place}
@@ -21,7 +22,8 @@ abbrev calls : lts.Claims
 calls = (run-reads.Asked, run-reads.Learnt, print-run-reads.Asked, print-run-reads.Learnt)
 
 -- the run of j ends where `run` says
-ends : (k : lts.After-struct-known calls reads.Pre reads.Post Inv-loop μ-loop) → EndsRun (k .before .before .before .before .before .args .c) (k .before .before .before .before .loop .j) (k .before .before .run .result .last)
+ends : (k : lts.After-struct-known calls reads.Pre reads.Post Inv-loop μ-loop)
+    → EndsRun (k .before .before .before .before .before .args .c) (k .before .before .before .before .loop .j) (k .before .before .run .result .last)
 ends k =
     let s = k .before .before .before .before .before in
     let j = k .before .before .before .before .loop .j in

@@ -68,8 +68,9 @@ loop-less c = omega arith
 
 loop-again : tie.Need-loop-again Inv-loop μ-loop
 loop-again c =
-    let h = c .before .before .before .before .before .loop in
-    let a = c .before .before .before .before .before .before in
+    let at-loop = c .before .before .before .before .before in
+    let h = at-loop .loop in
+    let a = at-loop .before in
     let s = a .args .s in
     let l = c .before .before .before .before .loop-test .taken in
     let at : (j : ℕ) → j < h .k → getD (h .out) j 0 ≡ byteOf o j = λ j m. filled-at 0 (h .inv .2) m in

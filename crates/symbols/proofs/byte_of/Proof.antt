@@ -27,13 +27,24 @@ mul-result-3 : tie.Need-mul-result-3
 mul-result-3 c = omega (arith, pair-small _ _ (c .pair3 .ensures))
 
 add-result-2 : tie.Need-add-result-2
-add-result-2 c = omega (arith, pair-small _ _ (c .before .before .before .before .pair .ensures), pair-small _ _ (c .before .before .pair2 .ensures), pair-small _ _ (c .pair3 .ensures))
+add-result-2 c =
+    let at-pair = c .before .before .before .before in
+    omega (arith, pair-small _ _ (at-pair .pair .ensures), pair-small _ _ (c .before .before .pair2 .ensures), pair-small _ _ (c .pair3 .ensures))
 
 pair-requires-4 : tie.Need-pair-requires-4
 pair-requires-4 c κs = search needs
 
 add-result-3 : tie.Need-add-result-3
-add-result-3 c = omega (arith, pair-small _ _ (c .before .before .before .before .before .before .pair .ensures), pair-small _ _ (c .before .before .before .before .pair2 .ensures), pair-small _ _ (c .before .before .pair3 .ensures), pair-small _ _ (c .pair4 .ensures))
+add-result-3 c =
+    let at-pair = c .before .before .before .before in
+    let at-pair-2 = at-pair .before .before in
+    omega (
+      arith,
+      pair-small _ _ (at-pair-2 .pair .ensures),
+      pair-small _ _ (at-pair .pair2 .ensures),
+      pair-small _ _ (c .before .before .pair3 .ensures),
+      pair-small _ _ (c .pair4 .ensures),
+    )
 
 returns : tie.Need-returns
 returns c =

@@ -18,9 +18,11 @@ level-requires-4 c κs = search needs
 
 returns : tie.Need-returns
 returns c =
-    symbol-is (c .before .before .before .before .args .x)
-    (c .before .before .before .level .result) (c .before .before .level2 .result) (c .before .level3 .result) (c .level4 .result)
-    (c .before .before .before .level .ensures) (c .before .before .level2 .ensures) (c .before .level3 .ensures) (c .level4 .ensures)
+    let at-level = c .before .before in
+    let at-level-2 = at-level .before in
+    symbol-is (at-level-2 .before .args .x)
+    (at-level-2 .level .result) (at-level .level2 .result) (c .before .level3 .result) (c .level4 .result)
+    (at-level-2 .level .ensures) (at-level .level2 .ensures) (c .before .level3 .ensures) (c .level4 .ensures)
 
 pub symbol-of-spec : {M : Type 1} → statement M
 symbol-of-spec =

@@ -1,8 +1,10 @@
 -- The same by tables that were made once and are lent. The definitions that take a table say what comes of any table; the laws (`proofs/Tabled`)
 -- say that with this table, and those of `matrix`, it is the code's. Assumes nothing: these are definitions.
-use Prim.Native.Nat.{ℕ, _+_, _*_, _/_, _%_, _^_}
+use Prim.Native.Nat.{ℕ, _+_, _*_, _/_, _%_, _^_, _<_}
 use mathlib.Core.List.{List}
-use lib.ListN.{getD}
+use mathlib.Core.Path.{_≡_}
+use lib.ListN.{getD, length}
+use lib.Bits.{bitXor}
 use Rattle.bits.specs.Bits.{tabulate, bitAt}
 use Rattle.sizes.specs.Sizes.{checkBits, wordBytes}
 use Rattle.matrix.specs.Sums.{sumTo}
@@ -25,3 +27,14 @@ sumBy t w = sumTo (entryAt t w) wordBytes
 -- the word of an element by two tables
 unfoldable pub wordBy : List ℕ → List ℕ → List ℕ → List ℕ
 wordBy t tails e = joinedWord (bitAt e) (getD tails (sumBy t (joinedWord (bitAt e) 0)) 0 % 2 ^ checkBits)
+
+-- ---- how the table of bytes is made: an entry with one bit more is the entry without it, and the column of that bit
+
+-- the first m entries of t, which has 256 for each byte of a word, are those of the table
+pub record Begun (m : ℕ) (t : List ℕ) : Type 0 where
+  pub long : length t ≡ 256 * wordBytes
+  pub first : (e : ℕ) → e < m → getD t e 0 ≡ byteEntry e
+
+-- the entries from a + n on are the n before them, c added to each
+abbrev pub Doubles : ℕ → ℕ → ℕ → Type 0
+Doubles a n c = (r : ℕ) → r < n → byteEntry (a + n + r) ≡ bitXor (byteEntry (a + r)) c
