@@ -8,14 +8,14 @@ use lib.ListN.{length, replicate}
 use Rattle.bits.specs.Bits.{tabulate, bitAt, pack, from, added}
 use Rattle.bits.proofs.Lists.{length-tabulate, is-table}
 use Rattle.bits.proofs.Packing.{bitOf-lt, bitOf-packs}
-use Rattle.matrix.specs.Sums.{tailTable}
+use Rattle.matrix.specs.Steps.{tailTable}
+use Rattle.line_order.specs.Steps.{laidGroup}
 use Rattle.lent.specs.Steps.{byteTable, wordBy}
 use Rattle.hamming.proofs.Words.{coded-ext, coded-zero}
 use Rattle.lent.proofs.Tabled.{by-word}
 use Rattle.scrambler.specs.Scrambler.{o}
 use Rattle.scrambler.proofs.Rule.{o-lt}
 use Rattle.line_order.specs.Order.{byteBy, groupSize, lineOrder}
-use Rattle.line_order.specs.Group.{laidGroup}
 use Rattle.line_order.proofs.Groups.{group-laid}
 use Rattle.sizes.specs.Sizes.{elementBits, superElements, superBytes, groupWords}
 use Rattle.line.specs.Frames.{superOf, elementOf}

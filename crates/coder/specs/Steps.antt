@@ -6,7 +6,7 @@ use mathlib.Core.List.{List}
 use lib.Dec.{ltb}
 use lib.ListN.{getD, length}
 use Rattle.bits.specs.Bits.{digit, pack}
-use Rattle.matrix.specs.Sums.{tailTable}
+use Rattle.matrix.specs.Steps.{tailTable}
 use Rattle.lent.specs.Steps.{byteTable}
 use Rattle.scrambler.specs.Scrambler.{o}
 use Rattle.sizes.specs.Sizes.{crcBits, fecBlocks, elementBits, superElements, superBytes, infoLength, parityLength, captureLength}

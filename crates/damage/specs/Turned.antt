@@ -5,7 +5,8 @@ use lib.ListN.{length, set, replicate}
 use Rattle.bits.specs.Bits.{bitAt, pack, added}
 use Rattle.bits.specs.Loops.{upto}
 use Rattle.sizes.specs.Sizes.{wordBytes}
-use Rattle.line_order.specs.Order.{wordIn, putWord}
+use Rattle.line_order.specs.Steps.{putWord}
+use Rattle.line_order.specs.Order.{wordIn}
 
 -- word w takes in the word v, bit by bit and without carries; past the end nothing changes
 unfoldable pub turnedWord : ℕ → List ℕ → List ℕ → List ℕ

@@ -4,8 +4,9 @@ use mathlib.Core.List.{List}
 use lib.ListN.{length}
 use Rattle.bits.specs.Loops.{upto}
 use Rattle.sizes.specs.Sizes.{wordBytes}
-use Rattle.line_order.specs.Order.{replaceBy, lineOrder}
+use Rattle.line_order.specs.Order.{lineOrder}
 use Rattle.capture.specs.Demand2.{hurt}
+use Rattle.line_order.specs.Steps.{replaceBy}
 use Rattle.demands.specs.Demands.{choiceOf}
 
 -- word w with the bit that is chosen for it turned

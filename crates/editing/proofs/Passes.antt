@@ -16,13 +16,14 @@ use Rattle.hamming.proofs.Words.{coded-long}
 use Rattle.sizes.specs.Sizes.{captureLength, words, listLength}
 use Rattle.line.specs.Frames.{superOf, elementOf}
 use Rattle.line.specs.Slots.{slotBit}
-use Rattle.line_order.specs.Order.{laid, wordIn, putWord, changed}
+use Rattle.line_order.specs.Order.{laid, wordIn}
 use Rattle.line.specs.Words.{wordsOf, fecIn}
 use Rattle.line_order.proofs.OrderLaws.{length-laid, length-word, word-laid, laid-ext, laid-words, put-laid}
 use Rattle.editing.specs.Edit.{fecOf, crcChange, editedFec, listed, picked, listOf, editedWord, editedCapture}
 use Rattle.editing.specs.Steps.{remade, mixed, listing, Passing, Turned}
 use Rattle.editing.proofs.Picking.{length-picked, picked-no, picked-set, count-yes, count-no}
 use Rattle.editing.proofs.Listing.{listed-few}
+use Rattle.line_order.specs.Steps.{putWord, changed}
 use Rattle.editing.proofs.Remaking.{word-made}
 
 -- ---- the words so far

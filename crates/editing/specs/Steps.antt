@@ -9,13 +9,14 @@ use Rattle.bits.specs.Bits.{digit, bitAt, pack}
 use Rattle.bits.specs.Loops.{count}
 use Rattle.scrambler.specs.Scrambler.{o}
 use Rattle.hamming.specs.Code.{coded}
-use Rattle.matrix.specs.Sums.{tailTable}
+use Rattle.matrix.specs.Steps.{tailTable}
+use Rattle.line_order.specs.Steps.{putWord}
 use Rattle.lent.specs.Steps.{byteTable}
 use Rattle.sizes.specs.Sizes.{crcBits, parityFrom, parityBytes, fecBlocks, elementBits, superElements, fecElements, captureLength, longestWait, blocksOf}
 use Rattle.sizes.specs.Sizes.{blockBytes, listLength}
 use Rattle.line.specs.Fec.{fields}
 use Rattle.line.specs.Slots.{elementIn}
-use Rattle.line_order.specs.Order.{laid, wordIn, putWord}
+use Rattle.line_order.specs.Order.{laid, wordIn}
 use Rattle.editing.specs.Edit.{fecOf, inBlock, blockFrom, elementLocal, listed, picked, editedWord, spareSet}
 
 -- ---- what a call has shown that none of the numbers 1 to 3 refuses

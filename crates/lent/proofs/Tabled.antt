@@ -10,7 +10,7 @@ use Rattle.bits.proofs.Lists.{getD-tabulate}
 use Rattle.bits.proofs.Packing.{bitOf-lt}
 use Rattle.sizes.specs.Sizes.{wordBytes}
 use Rattle.matrix.specs.Columns.{positionOf}
-use Rattle.matrix.specs.Sums.{tailOf, tailTable, positionTable}
+use Rattle.matrix.specs.Sums.{tailOf}
 use Rattle.hamming.specs.Code.{checksOf, elementSum, joined, joinedWord, coded, wordOf, byteSum}
 use Rattle.hamming.specs.Repair.{repairAt, repairOf}
 use Rattle.lent.specs.Steps.{byteEntry, byteTable, entryAt, sumBy, wordBy}
@@ -18,6 +18,7 @@ use Rattle.matrix.proofs.Sums.{sum-same}
 use Rattle.matrix.proofs.Matrix.{tail-lt}
 use Rattle.hamming.proofs.Words.{checks-lt, element-lt, joined-lt, pack-bytes}
 use Rattle.hamming.proofs.ByBytes.{byteOfSum, checks-bytes, checks-alone}
+use Rattle.matrix.specs.Steps.{tailTable, positionTable}
 use Rattle.lent.proofs.Doubling.{entry-of}
 
 byte-entry : (k x : ℕ) → k < wordBytes → x < 256 → getD byteTable (256 * k + x) 0 ≡ byteSum k x

@@ -1,3 +1,3 @@
 -- Where each symbol of each word stands in a capture, in any order of bytes and in the line's; and eight words as a group.
 pub mod Order
-pub mod Group
+pub mod Steps

@@ -1,13 +1,10 @@
--- The order of the bytes of a capture. What it is to lay words out, to take one and to put one back is said of any order; the line's
--- order is one of them, and the only place where it is written out. Assumes nothing: these are definitions.
+-- The order of the bytes of a capture. What it is to lay words out and to take one is said of any order; the line's order is one of
+-- them, and the only place where it is written out. Assumes nothing: these are definitions.
 use Prim.Native.Nat.{ℕ, _+_, _*_, _/_, _%_, _<_}
-use mathlib.Core.Bool.{cond}
 use mathlib.Core.Path.{_≡_}
 use mathlib.Core.List.{List}
-use lib.Dec.{eqb}
-use lib.ListN.{getD, set}
+use lib.ListN.{getD}
 use Rattle.bits.specs.Bits.{tabulate}
-use Rattle.bits.specs.Loops.{upto}
 use Rattle.sizes.specs.Sizes.{wordBytes, groupWords, captureLength}
 
 -- ---- any order
@@ -41,21 +38,6 @@ symbolBy o cap w k = getD cap (o .place w k) 0
 unfoldable pub wordBy : Order → List ℕ → ℕ → List ℕ
 wordBy o cap w = tabulate wordBytes (symbolBy o cap w)
 
--- the word v put into a capture as word w, symbol by symbol; past the end nothing changes
-unfoldable pub putSymbolBy : Order → ℕ → List ℕ → ℕ → List ℕ → List ℕ
-putSymbolBy o w v k cap = set cap (o .place w k) (getD v k 0)
-
-unfoldable pub putBy : Order → List ℕ → ℕ → List ℕ → List ℕ
-putBy o cap w v = upto (putSymbolBy o w v) cap wordBytes
-
--- word w of a capture replaced by what f makes of it
-unfoldable pub replaceBy : Order → (ℕ → List ℕ → List ℕ) → ℕ → List ℕ → List ℕ
-replaceBy o f w cap = putBy o cap w (f w (wordBy o cap w))
-
--- the words W with v for word w
-unfoldable pub changed : (ℕ → List ℕ) → ℕ → List ℕ → ℕ → List ℕ
-changed W w v x = cond (eqb x w) v (W x)
-
 -- ---- the line's order. "Eight words interleave: symbol k of word w stands at capture byte 128·floor(w/8) + 8·k + (w mod 8)" (document 01;
 -- 001 section 11.1)
 
@@ -75,12 +57,9 @@ symbolAt b = b % groupSize / groupWords
 unfoldable pub lineOrder : Order
 lineOrder = record { place = symbolPlace; word = wordAt; symbol = symbolAt }
 
--- the capture of N super frames with the words W; word w of a capture; a capture with v for its word w
+-- the capture of N super frames with the words W, and word w of a capture
 abbrev pub laid : ℕ → (ℕ → List ℕ) → List ℕ
 laid N W = laidBy lineOrder (captureLength N) W
 
 abbrev pub wordIn : List ℕ → ℕ → List ℕ
 wordIn cap w = wordBy lineOrder cap w
-
-abbrev pub putWord : List ℕ → ℕ → List ℕ → List ℕ
-putWord cap w v = putBy lineOrder cap w v

@@ -4,7 +4,7 @@ use mathlib.Core.List.{List}
 use lib.Bits.{bitXor}
 use Rattle.bits.specs.Bits.{tabulate, digit}
 use Rattle.sizes.specs.Sizes.{elementBits, checkBits}
-use Rattle.matrix.specs.Columns.{columnOf, placeIn, positionOf}
+use Rattle.matrix.specs.Columns.{columnOf, placeIn}
 
 -- f 0 + f 1 + .. + f (n - 1), digit by digit and without carries
 unfoldable pub sumTo : (ℕ → ℕ) → ℕ → ℕ
@@ -26,10 +26,3 @@ tailSums = tabulate (2 ^ checkBits) tailSum
 -- hamming.proofs.Words
 unfoldable pub tailOf : ℕ → ℕ
 tailOf c = placeIn tailSums c
-
--- both as tables: the check bits by the checks, and the position by the checks
-abbrev pub tailTable : List ℕ
-tailTable = tabulate (2 ^ checkBits) tailOf
-
-abbrev pub positionTable : List ℕ
-positionTable = tabulate (2 ^ checkBits) positionOf

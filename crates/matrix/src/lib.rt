@@ -8,7 +8,7 @@ use positions::POSITIONS;
 use tails::TAILS;
 ghost use mathlib.Core.Path.{_≡_};
 ghost use Rattle.matrix.specs.Columns.{columns};
-ghost use Rattle.matrix.specs.Sums.{tailTable, positionTable};
+ghost use Rattle.matrix.specs.Steps.{tailTable, positionTable};
 
 // The columns of H.
 pub fn column_table() -> [u16; 128]

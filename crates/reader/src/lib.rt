@@ -14,7 +14,7 @@ ghost use Rattle.answer.specs.Outcomes.{Outcome};
 ghost use Rattle.crc.specs.Crc.{crcOf};
 ghost use Rattle.crc.specs.Steps.{entries};
 ghost use Rattle.hamming.specs.Code.{checksOf};
-ghost use Rattle.matrix.specs.Sums.{positionTable};
+ghost use Rattle.matrix.specs.Steps.{positionTable};
 ghost use Rattle.lent.specs.Steps.{byteTable};
 ghost use Rattle.hamming.specs.Repair.{repairOf};
 ghost use Rattle.sizes.specs.Sizes.{infoBits, fecBits, fecBlocks, superBytes, infoLength, parityLength, words};

@@ -16,7 +16,7 @@ use Rattle.answer.specs.declared.Answer.{Answer}
 use Rattle.crc.specs.Crc.{crcOf}
 use Rattle.scrambler.specs.Scrambler.{o}
 use Rattle.hamming.specs.Code.{joinedWord}
-use Rattle.matrix.specs.Sums.{positionTable}
+use Rattle.matrix.specs.Steps.{positionTable}
 use Rattle.lent.specs.Steps.{byteTable}
 use Rattle.sizes.specs.Sizes.{infoBits, crcBits, mbasBits, parityBits, mbasFrom, parityFrom, fecBits, fecBlocks, padFrom, padBits, superBytes, infoLength}
 use Rattle.sizes.specs.Sizes.{parityLength, captureLength, words}

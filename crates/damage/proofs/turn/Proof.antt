@@ -6,9 +6,10 @@ use denote.Ref.{now}
 use borrow.Author.Needs.{needs}
 use Rattle.bits.specs.Bits.{bitAt, pack, added}
 use Rattle.sizes.specs.Sizes.{wordBytes}
-use Rattle.line_order.specs.Order.{wordIn, putWord}
+use Rattle.line_order.specs.Order.{wordIn}
 use Rattle.damage.specs.Turned.{turnedWord}
 use Rattle.damage.proofs.turn.Statement.{statement}
+use Rattle.line_order.specs.Steps.{putWord}
 use Rattle.damage.proofs.turn.Tie as tie
 
 turned : {x s out : List ℕ} (cap : List ℕ) (w : ℕ) (v : List ℕ) → x ≡ wordIn cap w → s ≡ pack wordBytes (added (bitAt x) (bitAt v))

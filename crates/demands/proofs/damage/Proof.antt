@@ -7,11 +7,12 @@ use denote.Ref.{now}
 use lib.ListN.{length}
 use borrow.Author.Needs.{needs}
 use Rattle.bits.proofs.LoopLaws.{Folded, folded-none, folded-more, folded-all}
-use Rattle.line_order.specs.Order.{wordIn, putWord, replaceBy, lineOrder}
+use Rattle.line_order.specs.Order.{wordIn, lineOrder}
 use Rattle.capture.specs.Demand2.{hurt}
 use Rattle.demands.specs.Demands.{choiceOf}
 use Rattle.demands.specs.Steps.{hurtBy, hurtBytes}
 use Rattle.demands.proofs.damage.Statement.{statement}
+use Rattle.line_order.specs.Steps.{putWord, replaceBy}
 use Rattle.demands.proofs.damage.Tie as tie
 
 -- a turn of the loop

@@ -5,8 +5,8 @@ use native.Mathlib.Omega.{arith}
 use lib.ListN.{length}
 use borrow.Author.Needs.{needs}
 use Rattle.bits.proofs.LoopLaws.{Folded, folded-none, folded-more, folded-all}
-use Rattle.line_order.specs.Order.{replaceBy, lineOrder}
-use Rattle.line_order.specs.Group.{wordOf}
+use Rattle.line_order.specs.Order.{lineOrder}
+use Rattle.line_order.specs.Steps.{replaceBy, wordOf}
 use Rattle.line_order.proofs.Groups.{group-put}
 use Rattle.line_order.proofs.interleave.Statement.{statement}
 use Rattle.line_order.proofs.interleave.Tie as tie

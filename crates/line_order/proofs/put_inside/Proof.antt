@@ -5,9 +5,10 @@ use native.Mathlib.Omega.{arith}
 use lib.ListN.{length, length-set, getD, set}
 use Rattle.bits.proofs.LoopLaws.{Folded, folded-none, folded-more, folded-all}
 use Rattle.sizes.specs.Sizes.{groupWords}
-use Rattle.line_order.specs.Order.{putSymbolBy, putBy, groupSize, symbolPlace, lineOrder}
+use Rattle.line_order.specs.Order.{groupSize, symbolPlace, lineOrder}
 use Rattle.line_order.proofs.OrderLaws.{place-group}
 use Rattle.line_order.proofs.put_inside.Statement.{statement}
+use Rattle.line_order.specs.Steps.{putSymbolBy, putBy}
 use Rattle.line_order.proofs.put_inside.Tie as tie
 
 abbrev Inv-loop : tie.InvT-loop

@@ -4,8 +4,9 @@ use mathlib.Core.Path.{_≡_, refl}
 use native.Mathlib.Omega.{arith}
 use lib.ListN.{length, length-set}
 use Rattle.bits.proofs.LoopLaws.{Folded, folded-none, folded-more, folded-all}
-use Rattle.line_order.specs.Order.{putSymbolBy, putBy, lineOrder}
+use Rattle.line_order.specs.Order.{lineOrder}
 use Rattle.line_order.proofs.put_tested.Statement.{statement}
+use Rattle.line_order.specs.Steps.{putSymbolBy, putBy}
 use Rattle.line_order.proofs.put_tested.Tie as tie
 
 abbrev Inv-loop : tie.InvT-loop

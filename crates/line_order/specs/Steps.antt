@@ -1,0 +1,42 @@
+-- What the code does with the order: a word is put into a capture, and eight words are a group of 128 bytes. Assumes nothing: these are definitions.
+use Prim.Native.Nat.{ℕ}
+use mathlib.Core.Bool.{cond}
+use mathlib.Core.List.{List, []}
+use lib.Dec.{eqb}
+use lib.ListN.{getD, set}
+use Rattle.bits.specs.Bits.{tabulate}
+use Rattle.bits.specs.Loops.{upto}
+use Rattle.sizes.specs.Sizes.{wordBytes, groupWords}
+use Rattle.line_order.specs.Order.{Order, laidBy, wordBy, groupSize, lineOrder}
+
+-- the word v put into a capture as word w, symbol by symbol; past the end nothing changes
+unfoldable pub putSymbolBy : Order → ℕ → List ℕ → ℕ → List ℕ → List ℕ
+putSymbolBy o w v k cap = set cap (o .place w k) (getD v k 0)
+
+unfoldable pub putBy : Order → List ℕ → ℕ → List ℕ → List ℕ
+putBy o cap w v = upto (putSymbolBy o w v) cap wordBytes
+
+-- word w of a capture replaced by what f makes of it
+unfoldable pub replaceBy : Order → (ℕ → List ℕ → List ℕ) → ℕ → List ℕ → List ℕ
+replaceBy o f w cap = putBy o cap w (f w (wordBy o cap w))
+
+-- the words W with v for word w
+unfoldable pub changed : (ℕ → List ℕ) → ℕ → List ℕ → ℕ → List ℕ
+changed W w v x = cond (eqb x w) v (W x)
+
+-- the same in the line's order
+abbrev pub putWord : List ℕ → ℕ → List ℕ → List ℕ
+putWord cap w v = putBy lineOrder cap w v
+
+-- ---- eight words as a group: a capture that has only these
+
+-- word w of eight
+abbrev pub wordOf : List (List ℕ) → ℕ → List ℕ
+wordOf words w = getD words w []
+
+abbrev pub laidGroup : List (List ℕ) → List ℕ
+laidGroup words = laidBy lineOrder groupSize (wordOf words)
+
+-- and back
+abbrev pub takenGroup : List ℕ → List (List ℕ)
+takenGroup s = tabulate groupWords (wordBy lineOrder s)
