@@ -27,9 +27,4 @@ returns c =
 pub byte-from-spec : {M : Type 1} → statement M
 byte-from-spec =
     tie.close
-    (tie.spec
-    byte-at-requires
-    add-byte-at
-    byte-at-requires-2
-    eight-of-requires
-    returns)
+    (tie.spec byte-at-requires add-byte-at byte-at-requires-2 eight-of-requires returns)

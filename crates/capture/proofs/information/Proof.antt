@@ -56,15 +56,5 @@ returns-2 c =
 pub information-spec : {M : Type 1} → statement M
 information-spec =
     tie.close
-    (tie.spec
-    information-answer-requires
-    mul-from
-    add-result
-    sub-result
-    part-result-start
-    part-result-end
-    returns
-    sub-result-2
-    part-result-start-2
-    part-result-end-2
-    returns-2)
+    (tie.spec information-answer-requires mul-from add-result sub-result part-result-start part-result-end returns sub-result-2 part-result-start-2
+    part-result-end-2 returns-2)

@@ -54,12 +54,4 @@ returns-2 c = rw (in-turn, inside (c .before .before), c .refuse-length .ensures
 pub information-answer-spec : {M : Type 1} → statement M
 information-answer-spec =
     tie.close
-    (tie.spec
-    cast-one-of
-    one-of-requires
-    refuse-requires
-    returns
-    mul-stated
-    granted-requires
-    refuse-length-requires
-    returns-2)
+    (tie.spec cast-one-of one-of-requires refuse-requires returns mul-stated granted-requires refuse-length-requires returns-2)

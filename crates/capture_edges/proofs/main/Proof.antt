@@ -37,14 +37,4 @@ returns c = search needs
 pub main-spec : {M : Type 1} → statement M
 main-spec =
     tie.close
-    (tie.spec
-    Inv-loop
-    μ-loop
-    sized-requires
-    loop-holds
-    sized-requires-2
-    add-m
-    loop-less
-    loop-again
-    sized-requires-3
-    returns)
+    (tie.spec Inv-loop μ-loop sized-requires loop-holds sized-requires-2 add-m loop-less loop-again sized-requires-3 returns)

@@ -46,16 +46,4 @@ returns c = record { is = λ t h. filled-at 0 (c .before .loop .inv) (omega arit
 pub block-crcs-spec : {M : Type 1} → statement M
 block-crcs-spec =
     tie.close
-    (tie.spec
-    Inv-loop
-    μ-loop
-    table-requires
-    mul-t-end
-    loop-holds
-    block-crc-requires
-    mul-crcs
-    array-write-crcs
-    add-t
-    loop-less
-    loop-again
-    returns)
+    (tie.spec Inv-loop μ-loop table-requires mul-t-end loop-holds block-crc-requires mul-crcs array-write-crcs add-t loop-less loop-again returns)

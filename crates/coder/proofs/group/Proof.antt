@@ -48,16 +48,4 @@ returns c = filled-all 8 (c .before .loop .inv) (c .loop-test .left) (omega arit
 pub group-spec : {M : Type 1} → statement M
 group-spec =
     tie.close
-    (tie.spec
-    Inv-loop
-    μ-loop
-    loop-holds
-    mul-word
-    add-word
-    word-requires
-    mul-words
-    array-set-from-words
-    add-j
-    loop-less
-    loop-again
-    returns)
+    (tie.spec Inv-loop μ-loop loop-holds mul-word add-word word-requires mul-words array-set-from-words add-j loop-less loop-again returns)

@@ -69,18 +69,5 @@ returns-2 c =
 pub judge-spec : {M : Type 1} → statement M
 judge-spec =
     tie.close
-    (tie.spec
-    numbers-allowed-requires
-    refuse-requires
-    returns
-    mul-capture-bytes
-    add-capture-bytes
-    mul-granted
-    add-granted
-    granted-requires
-    refuse-length-requires
-    mul-refuse-length
-    refuse-length-requires-2
-    mul-refuse-length-2
-    refuse-length-requires-3
-    returns-2)
+    (tie.spec numbers-allowed-requires refuse-requires returns mul-capture-bytes add-capture-bytes mul-granted add-granted granted-requires
+    refuse-length-requires mul-refuse-length refuse-length-requires-2 mul-refuse-length-2 refuse-length-requires-3 returns-2)

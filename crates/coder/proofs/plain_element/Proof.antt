@@ -85,24 +85,6 @@ returns-4 c =
 pub plain-element-spec : {M : Type 1} → statement M
 plain-element-spec =
     tie.close
-    (tie.spec
-    returns
-    mul-t
-    add-t
-    mul-word-from
-    mul-word-from-2
-    add-word-from
-    word-from-requires
-    returns-2
-    mul-tail-element
-    element-copy-out-tail-element
-    mbas-requires
-    mul-tail-element-2
-    tail-element-requires
-    returns-3
-    mul-word-from-3
-    mul-word-from-4
-    sub-word-from
-    add-word-from-2
-    word-from-requires-2
-    returns-4)
+    (tie.spec returns mul-t add-t mul-word-from mul-word-from-2 add-word-from word-from-requires returns-2 mul-tail-element
+    element-copy-out-tail-element mbas-requires mul-tail-element-2 tail-element-requires returns-3 mul-word-from-3 mul-word-from-4 sub-word-from
+    add-word-from-2 word-from-requires-2 returns-4)

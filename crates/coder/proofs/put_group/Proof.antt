@@ -40,14 +40,4 @@ returns c = filled-all 128 (c .before .loop .inv) (search loops) (search loops)
 pub put-group-spec : {M : Type 1} → statement M
 put-group-spec =
     tie.close
-    (tie.spec
-    Inv-loop
-    μ-loop
-    loop-holds
-    array-read-out
-    slice-write-out
-    add-k
-    loop-less
-    loop-again
-    same-length
-    returns)
+    (tie.spec Inv-loop μ-loop loop-holds array-read-out slice-write-out add-k loop-less loop-again same-length returns)

@@ -68,19 +68,5 @@ returns-3 c =
 pub tail-byte-spec : {M : Type 1} → statement M
 tail-byte-spec =
     tie.close
-    (tie.spec
-    mul-result
-    sub-result
-    cast-result
-    shr-result
-    cast-result-2
-    returns
-    mul-result-2
-    byte-from-requires
-    add-result
-    returns-2
-    mul-byte-from
-    sub-byte-from
-    add-byte-from
-    byte-from-requires-2
-    returns-3)
+    (tie.spec mul-result sub-result cast-result shr-result cast-result-2 returns mul-result-2 byte-from-requires add-result returns-2 mul-byte-from
+    sub-byte-from add-byte-from byte-from-requires-2 returns-3)

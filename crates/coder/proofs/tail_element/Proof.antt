@@ -37,13 +37,4 @@ returns c = search loops
 pub tail-element-spec : {M : Type 1} → statement M
 tail-element-spec =
     tie.close
-    (tie.spec
-    Inv-loop
-    μ-loop
-    loop-holds
-    tail-byte-requires
-    array-write-r
-    add-k
-    loop-less
-    loop-again
-    returns)
+    (tie.spec Inv-loop μ-loop loop-holds tail-byte-requires array-write-r add-k loop-less loop-again returns)

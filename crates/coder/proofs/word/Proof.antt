@@ -62,13 +62,5 @@ returns-2 c =
 pub word-spec : {M : Type 1} → statement M
 word-spec =
     tie.close
-    (tie.spec
-    holds-element-requires
-    returns
-    element-in-requires
-    plain-element-requires
-    mul-word-from
-    word-from-requires
-    sum-requires
-    encode-by-requires
-    returns-2)
+    (tie.spec holds-element-requires returns element-in-requires plain-element-requires mul-word-from word-from-requires sum-requires
+    encode-by-requires returns-2)

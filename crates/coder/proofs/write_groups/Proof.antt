@@ -81,22 +81,5 @@ returns c = filled-all (captureLength (c .before .before .before .before .before
 pub write-groups-spec : {M : Type 1} → statement M
 write-groups-spec =
     tie.close
-    (tie.spec
-    Inv-loop
-    μ-loop
-    mul-g-end
-    add-g-end
-    loop-holds
-    group-requires
-    mul-from
-    add-put-group
-    sub-put-group
-    part-put-group-start
-    part-put-group-end
-    interleave-requires
-    put-group-requires
-    add-g
-    loop-less
-    loop-again
-    same-length
-    returns)
+    (tie.spec Inv-loop μ-loop mul-g-end add-g-end loop-holds group-requires mul-from add-put-group sub-put-group part-put-group-start
+    part-put-group-end interleave-requires put-group-requires add-g loop-less loop-again same-length returns)

@@ -65,19 +65,5 @@ returns c = search loops
 pub copy-inside-spec : {M : Type 1} → statement M
 copy-inside-spec =
     tie.close
-    (tie.spec
-    Inv-loop
-    μ-loop
-    loop-holds
-    add-eight-of
-    shared-slice-read-eight-of
-    add-eight-of-2
-    add-eight-of-3
-    shared-slice-read-eight-of-2
-    eight-of-requires
-    slice-write-out
-    add-k
-    loop-less
-    loop-again
-    same-length
-    returns)
+    (tie.spec Inv-loop μ-loop loop-holds add-eight-of shared-slice-read-eight-of add-eight-of-2 add-eight-of-3 shared-slice-read-eight-of-2
+    eight-of-requires slice-write-out add-k loop-less loop-again same-length returns)

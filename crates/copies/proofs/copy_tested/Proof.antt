@@ -66,19 +66,5 @@ returns c = search loops
 pub copy-tested-spec : {M : Type 1} → statement M
 copy-tested-spec =
     tie.close
-    (tie.spec
-    Inv-loop
-    μ-loop
-    loop-holds
-    add-byte-at
-    byte-at-requires
-    add-byte-at-2
-    add-byte-at-3
-    byte-at-requires-2
-    eight-of-requires
-    slice-write-out
-    add-k
-    loop-less
-    loop-again
-    same-length
-    returns)
+    (tie.spec Inv-loop μ-loop loop-holds add-byte-at byte-at-requires add-byte-at-2 add-byte-at-3 byte-at-requires-2 eight-of-requires slice-write-out
+    add-k loop-less loop-again same-length returns)

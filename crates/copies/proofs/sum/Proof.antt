@@ -49,14 +49,4 @@ returns c = search loops
 pub sum-spec : {M : Type 1} → statement M
 sum-spec =
     tie.close
-    (tie.spec
-    Inv-loop
-    μ-loop
-    loop-holds
-    array-read-r
-    array-read-r-2
-    array-write-r
-    add-k
-    loop-less
-    loop-again
-    returns)
+    (tie.spec Inv-loop μ-loop loop-holds array-read-r array-read-r-2 array-write-r add-k loop-less loop-again returns)

@@ -37,13 +37,4 @@ returns c = search loops
 pub more-spec : {M : Type 1} → statement M
 more-spec =
     tie.close
-    (tie.spec
-    Inv-loop
-    μ-loop
-    loop-holds
-    shared-slice-read-step
-    step-requires
-    add-k
-    loop-less
-    loop-again
-    returns)
+    (tie.spec Inv-loop μ-loop loop-holds shared-slice-read-step step-requires add-k loop-less loop-again returns)

@@ -67,16 +67,4 @@ returns c = folded-all _ (c .before .loop .inv .0) (c .before .loop .inv .2) (c 
 pub turn-in-all-spec : {M : Type 1} → statement M
 turn-in-all-spec =
     tie.close
-    (tie.spec
-    Inv-loop
-    μ-loop
-    loop-holds
-    mul-bit
-    add-bit
-    bit-requires
-    turn-requires
-    add-w
-    loop-less
-    loop-again
-    same-length
-    returns)
+    (tie.spec Inv-loop μ-loop loop-holds mul-bit add-bit bit-requires turn-requires add-w loop-less loop-again same-length returns)

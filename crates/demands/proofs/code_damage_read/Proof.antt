@@ -48,13 +48,4 @@ returns-2 c =
 pub code-damage-read-spec : {M : Type 1} → statement M
 code-damage-read-spec =
     tie.close
-    (tie.spec
-    code-requires
-    same-length
-    returns
-    damage-requires
-    read-requires
-    same-length-2
-    same-length-3
-    same-length-4
-    returns-2)
+    (tie.spec code-requires same-length returns damage-requires read-requires same-length-2 same-length-3 same-length-4 returns-2)

@@ -40,11 +40,4 @@ returns-2 c =
 pub code-edit-spec : {M : Type 1} → statement M
 code-edit-spec =
     tie.close
-    (tie.spec
-    code-requires
-    same-length
-    returns
-    edit-requires
-    same-length-2
-    same-length-3
-    returns-2)
+    (tie.spec code-requires same-length returns edit-requires same-length-2 same-length-3 returns-2)

@@ -72,16 +72,5 @@ returns c = folded-all _ (c .before .loop .inv .0) (c .before .loop .inv .2) (c 
 pub damage-spec : {M : Type 1} → statement M
 damage-spec =
     tie.close
-    (tie.spec
-    Inv-loop
-    μ-loop
-    loop-holds
-    word-in-requires
-    choice-requires
-    hurt-word-requires
-    put-word-requires
-    add-w
-    loop-less
-    loop-again
-    same-length
+    (tie.spec Inv-loop μ-loop loop-holds word-in-requires choice-requires hurt-word-requires put-word-requires add-w loop-less loop-again same-length
     returns)

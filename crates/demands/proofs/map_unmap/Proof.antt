@@ -36,11 +36,4 @@ returns-2 c =
 pub map-unmap-spec : {M : Type 1} → statement M
 map-unmap-spec =
     tie.close
-    (tie.spec
-    map-requires
-    same-length
-    returns
-    unmap-requires
-    same-length-2
-    same-length-3
-    returns-2)
+    (tie.spec map-requires same-length returns unmap-requires same-length-2 same-length-3 returns-2)

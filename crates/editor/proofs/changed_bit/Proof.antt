@@ -36,10 +36,4 @@ returns c =
 pub changed-bit-spec : {M : Type 1} → statement M
 changed-bit-spec =
     tie.close
-    (tie.spec
-    mul-received-bit
-    add-received-bit
-    received-bit-requires
-    bit-at-requires
-    add-requires
-    returns)
+    (tie.spec mul-received-bit add-received-bit received-bit-requires bit-at-requires add-requires returns)

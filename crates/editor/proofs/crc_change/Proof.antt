@@ -77,16 +77,5 @@ returns c =
 pub crc-change-spec : {M : Type 1} → statement M
 crc-change-spec =
     tie.close
-    (tie.spec
-    Inv-loop
-    μ-loop
-    loop-holds
-    changed-bit-requires
-    take-requires
-    add-j
-    loop-less
-    loop-again
-    mul-shifted
-    sub-shifted
-    shifted-requires
+    (tie.spec Inv-loop μ-loop loop-holds changed-bit-requires take-requires add-j loop-less loop-again mul-shifted sub-shifted shifted-requires
     returns)

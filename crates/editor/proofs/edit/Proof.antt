@@ -39,11 +39,4 @@ returns-2 c = search needs
 pub edit-spec : {M : Type 1} → statement M
 edit-spec =
     tie.close
-    (tie.spec
-    spare-set-requires
-    judge-requires
-    returns
-    edit-checked-requires
-    same-length
-    same-length-2
-    returns-2)
+    (tie.spec spare-set-requires judge-requires returns edit-checked-requires same-length same-length-2 returns-2)

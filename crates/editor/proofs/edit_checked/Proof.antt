@@ -56,16 +56,5 @@ returns-2 c =
 pub edit-checked-spec : {M : Type 1} → statement M
 edit-checked-spec =
     tie.close
-    (tie.spec
-    byte-table-requires
-    first-refused-requires
-    mul-if1
-    add-if1
-    refuse-requires
-    same-length
-    returns
-    replace-requires
-    granted-requires
-    same-length-2
-    same-length-3
-    returns-2)
+    (tie.spec byte-table-requires first-refused-requires mul-if1 add-if1 refuse-requires same-length returns replace-requires granted-requires
+    same-length-2 same-length-3 returns-2)

@@ -86,17 +86,5 @@ returns-2 c =
 pub first-refused-spec : {M : Type 1} → statement M
 first-refused-spec =
     tie.close
-    (tie.spec
-    Inv-loop
-    μ-loop
-    stretch-from-requires
-    stretch-to-requires
-    loop-holds
-    is-refused-requires
-    returns
-    add-w
-    loop-less
-    loop-again
-    mul-result
-    add-result
-    returns-2)
+    (tie.spec Inv-loop μ-loop stretch-from-requires stretch-to-requires loop-holds is-refused-requires returns add-w loop-less loop-again mul-result
+    add-result returns-2)

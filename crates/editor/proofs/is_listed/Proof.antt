@@ -57,13 +57,4 @@ returns-4 c =
 pub is-listed-spec : {M : Type 1} → statement M
 is-listed-spec =
     tie.close
-    (tie.spec
-    element-in-requires
-    first-element-requires
-    returns
-    add-if2
-    returns-2
-    holds-touched-requires
-    returns-3
-    holds-element-requires
-    returns-4)
+    (tie.spec element-in-requires first-element-requires returns add-if2 returns-2 holds-touched-requires returns-3 holds-element-requires returns-4)

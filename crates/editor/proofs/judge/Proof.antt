@@ -77,18 +77,5 @@ returns-2 c =
 pub judge-spec : {M : Type 1} → statement M
 judge-spec =
     tie.close
-    (tie.spec
-    cast-one-of
-    one-of-requires
-    refuse-requires
-    returns
-    mul-capture-bytes
-    add-capture-bytes
-    granted-requires
-    buffer-place-requires
-    refuse-if-requires
-    refuse-length-requires
-    refuse-length-requires-2
-    refuse-length-requires-3
-    refuse-length-requires-4
-    returns-2)
+    (tie.spec cast-one-of one-of-requires refuse-requires returns mul-capture-bytes add-capture-bytes granted-requires buffer-place-requires
+    refuse-if-requires refuse-length-requires refuse-length-requires-2 refuse-length-requires-3 refuse-length-requires-4 returns-2)

@@ -66,17 +66,5 @@ returns-4 c =
 pub new-bit-spec : {M : Type 1} → statement M
 new-bit-spec =
     tie.close
-    (tie.spec
-    new-info-bit-requires
-    returns
-    sub-add
-    cast-add
-    shr-add
-    cast-add-2
-    add-requires
-    returns-2
-    returns-3
-    bit-at-requires
-    bit-at-requires-2
-    add-requires-2
-    returns-4)
+    (tie.spec new-info-bit-requires returns sub-add cast-add shr-add cast-add-2 add-requires returns-2 returns-3 bit-at-requires bit-at-requires-2
+    add-requires-2 returns-4)

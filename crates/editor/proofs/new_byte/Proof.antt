@@ -60,18 +60,5 @@ returns c = packed-all (c .before .loop .inv) (c .loop-test .left)
 pub new-byte-spec : {M : Type 1} → statement M
 new-byte-spec =
     tie.close
-    (tie.spec
-    Inv-loop
-    μ-loop
-    loop-holds
-    mul-acc
-    mul-new-element-bit
-    add-new-element-bit
-    new-element-bit-requires
-    wide-requires
-    add-acc
-    add-a
-    loop-less
-    loop-again
-    cast-result
-    returns)
+    (tie.spec Inv-loop μ-loop loop-holds mul-acc mul-new-element-bit add-new-element-bit new-element-bit-requires wide-requires add-acc add-a
+    loop-less loop-again cast-result returns)

@@ -38,13 +38,4 @@ returns c = filled-all 16 (c .before .loop .inv) (c .loop-test .left) (omega ari
 pub new-element-spec : {M : Type 1} → statement M
 new-element-spec =
     tie.close
-    (tie.spec
-    Inv-loop
-    μ-loop
-    loop-holds
-    new-byte-requires
-    array-write-r
-    add-j
-    loop-less
-    loop-again
-    returns)
+    (tie.spec Inv-loop μ-loop loop-holds new-byte-requires array-write-r add-j loop-less loop-again returns)

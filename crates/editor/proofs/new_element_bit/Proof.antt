@@ -39,11 +39,4 @@ returns c =
 pub new-element-bit-spec : {M : Type 1} → statement M
 new-element-bit-spec =
     tie.close
-    (tie.spec
-    mul-new-bit
-    add-new-bit
-    mul-new-bit-2
-    add-new-bit-2
-    bit-at-requires
-    new-bit-requires
-    returns)
+    (tie.spec mul-new-bit add-new-bit mul-new-bit-2 add-new-bit-2 bit-at-requires new-bit-requires returns)

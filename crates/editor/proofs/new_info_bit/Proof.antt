@@ -48,12 +48,4 @@ returns-3 c =
 pub new-info-bit-spec : {M : Type 1} → statement M
 new-info-bit-spec =
     tie.close
-    (tie.spec
-    mul-from
-    returns
-    add-if2
-    returns-2
-    bit-at-requires
-    bit-at-requires-2
-    add-requires
-    returns-3)
+    (tie.spec mul-from returns add-if2 returns-2 bit-at-requires bit-at-requires-2 add-requires returns-3)

@@ -61,12 +61,5 @@ returns-2 c =
 pub new-word-spec : {M : Type 1} → statement M
 new-word-spec =
     tie.close
-    (tie.spec
-    element-in-requires
-    parity-element-requires
-    encode-by-requires
-    returns
-    slice-aggregate-new-element
-    new-element-requires
-    encode-by-requires-2
-    returns-2)
+    (tie.spec element-in-requires parity-element-requires encode-by-requires returns slice-aggregate-new-element new-element-requires
+    encode-by-requires-2 returns-2)

@@ -40,11 +40,4 @@ returns c =
 pub parity-element-spec : {M : Type 1} → statement M
 parity-element-spec =
     tie.close
-    (tie.spec
-    mul-at
-    sub-at
-    word-from-requires
-    mul-word-from
-    word-from-requires-2
-    sum-requires
-    returns)
+    (tie.spec mul-at sub-at word-from-requires mul-word-from word-from-requires-2 sum-requires returns)

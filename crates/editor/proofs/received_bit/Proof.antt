@@ -57,14 +57,4 @@ returns c =
 pub received-bit-spec : {M : Type 1} → statement M
 received-bit-spec =
     tie.close
-    (tie.spec
-    mul-k
-    add-k
-    mul-slot
-    add-slot
-    cast-slot
-    slot-requires
-    word-bit-requires
-    bit-at-requires
-    add-requires
-    returns)
+    (tie.spec mul-k add-k mul-slot add-slot cast-slot slot-requires word-bit-requires bit-at-requires add-requires returns)

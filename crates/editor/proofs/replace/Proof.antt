@@ -41,12 +41,4 @@ returns c = search needs
 pub replace-spec : {M : Type 1} → statement M
 replace-spec =
     tie.close
-    (tie.spec
-    slice-aggregate-fill
-    fill-requires
-    tail-table-requires
-    crc-change-requires
-    rewrite-requires
-    same-length
-    same-length-2
-    returns)
+    (tie.spec slice-aggregate-fill fill-requires tail-table-requires crc-change-requires rewrite-requires same-length same-length-2 returns)

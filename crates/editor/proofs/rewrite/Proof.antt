@@ -104,16 +104,5 @@ returns c =
 pub rewrite-spec : {M : Type 1} → statement M
 rewrite-spec =
     tie.close
-    (tie.spec
-    Inv-loop
-    μ-loop
-    stretch-from-requires
-    stretch-to-requires
-    loop-holds
-    turn-requires
-    add-w
-    loop-less
-    loop-again
-    same-length
-    same-length-2
+    (tie.spec Inv-loop μ-loop stretch-from-requires stretch-to-requires loop-holds turn-requires add-w loop-less loop-again same-length same-length-2
     returns)

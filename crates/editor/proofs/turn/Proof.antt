@@ -58,15 +58,5 @@ returns-2 c =
 pub turn-spec : {M : Type 1} → statement M
 turn-spec =
     tie.close
-    (tie.spec
-    is-listed-requires
-    word-in-requires
-    new-word-requires
-    put-word-requires
-    mul-list
-    slice-write-list
-    add-result
-    same-length
-    same-length-2
-    returns
-    returns-2)
+    (tie.spec is-listed-requires word-in-requires new-word-requires put-word-requires mul-list slice-write-list add-result same-length same-length-2
+    returns returns-2)

@@ -39,14 +39,4 @@ returns c = search needs
 pub fill-words-spec : {M : Type 1} → statement M
 fill-words-spec =
     tie.close
-    (tie.spec
-    Inv-loop
-    μ-loop
-    start-requires
-    loop-holds
-    put-word-requires
-    add-w
-    loop-less
-    loop-again
-    same-length
-    returns)
+    (tie.spec Inv-loop μ-loop start-requires loop-holds put-word-requires add-w loop-less loop-again same-length returns)

@@ -42,15 +42,4 @@ returns c = search needs
 pub put-bits-spec : {M : Type 1} → statement M
 put-bits-spec =
     tie.close
-    (tie.spec
-    Inv-loop
-    μ-loop
-    loop-holds
-    add-put-bit
-    bit-at-requires
-    put-bit-requires
-    add-i
-    loop-less
-    loop-again
-    same-length
-    returns)
+    (tie.spec Inv-loop μ-loop loop-holds add-put-bit bit-at-requires put-bit-requires add-i loop-less loop-again same-length returns)

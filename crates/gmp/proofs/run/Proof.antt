@@ -28,11 +28,4 @@ returns-3 c = search asked
 pub run-spec : {M : Type 1} → statement M
 run-spec =
     tie.close
-    (tie.spec
-    outside-place-requires
-    returns
-    is-data-requires
-    data-last-requires
-    returns-2
-    stuff-last-requires
-    returns-3)
+    (tie.spec outside-place-requires returns is-data-requires data-last-requires returns-2 stuff-last-requires returns-3)

@@ -42,14 +42,5 @@ returns-3 c = search turns
 pub runs-spec : {M : Type 1} → statement M
 runs-spec =
     tie.close
-    (tie.spec
-    outside-place-requires
-    refuse-requires
-    returns
-    is-data-requires
-    data-runs-requires
-    granted-requires
-    returns-2
-    stuff-runs-requires
-    granted-requires-2
-    returns-3)
+    (tie.spec outside-place-requires refuse-requires returns is-data-requires data-runs-requires granted-requires returns-2 stuff-runs-requires
+    granted-requires-2 returns-3)

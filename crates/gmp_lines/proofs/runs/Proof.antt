@@ -52,19 +52,5 @@ returns c = search needs
 pub runs-spec : {M : Type 1} → statement M
 runs-spec =
     tie.close
-    (tie.spec
-    Inv-loop
-    μ-loop
-    loop-holds
-    mul-run
-    mul-run-2
-    array-read-run
-    mul-run-3
-    add-run
-    mul-run-4
-    array-read-run-2
-    run-requires
-    add-k
-    loop-less
-    loop-again
-    returns)
+    (tie.spec Inv-loop μ-loop loop-holds mul-run mul-run-2 array-read-run mul-run-3 add-run mul-run-4 array-read-run-2 run-requires add-k loop-less
+    loop-again returns)

@@ -36,14 +36,4 @@ returns-2 c = tt
 pub read-line-spec : {M : Type 1} → statement M
 read-line-spec =
     tie.close
-    (tie.spec
-    Inv-loop
-    μ-loop
-    start-requires
-    loop-holds
-    read-part-requires
-    returns
-    sub-turns
-    loop-less
-    loop-again
-    returns-2)
+    (tie.spec Inv-loop μ-loop start-requires loop-holds read-part-requires returns sub-turns loop-less loop-again returns-2)

@@ -64,17 +64,5 @@ returns c = summed-all (c .before .loop .inv) (c .loop-test .left)
 pub byte-sum-spec : {M : Type 1} → statement M
 byte-sum-spec =
     tie.close
-    (tie.spec
-    Inv-loop
-    μ-loop
-    loop-holds
-    digit-of-requires
-    mul-times
-    add-times
-    mul-times-2
-    element-copy-out-times
-    times-requires
-    add-j
-    loop-less
-    loop-again
-    returns)
+    (tie.spec Inv-loop μ-loop loop-holds digit-of-requires mul-times add-times mul-times-2 element-copy-out-times times-requires add-j loop-less
+    loop-again returns)

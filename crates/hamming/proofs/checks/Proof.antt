@@ -44,14 +44,4 @@ returns c = summed-all (c .before .loop .inv) (c .loop-test .left) ∙ checks-by
 pub checks-spec : {M : Type 1} → statement M
 checks-spec =
     tie.close
-    (tie.spec
-    Inv-loop
-    μ-loop
-    column-table-requires
-    loop-holds
-    array-read-byte-sum
-    byte-sum-requires
-    add-k
-    loop-less
-    loop-again
-    returns)
+    (tie.spec Inv-loop μ-loop column-table-requires loop-holds array-read-byte-sum byte-sum-requires add-k loop-less loop-again returns)

@@ -34,13 +34,4 @@ returns c = search needs
 pub double-flips-spec : {M : Type 1} → statement M
 double-flips-spec =
     tie.close
-    (tie.spec
-    Inv-loop
-    μ-loop
-    loop-holds
-    pair-beyond-requires
-    add-n
-    add-p
-    loop-less
-    loop-again
-    returns)
+    (tie.spec Inv-loop μ-loop loop-holds pair-beyond-requires add-n add-p loop-less loop-again returns)

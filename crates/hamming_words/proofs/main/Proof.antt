@@ -46,17 +46,5 @@ returns c = search needs
 pub main-spec : {M : Type 1} → statement M
 main-spec =
     tie.close
-    (tie.spec
-    Inv-loop
-    μ-loop
-    print-words-requires
-    print-rows-requires
-    byte-table-requires
-    position-table-requires
-    loop-holds
-    word-requires
-    print-flips-requires
-    add-i
-    loop-less
-    loop-again
-    returns)
+    (tie.spec Inv-loop μ-loop print-words-requires print-rows-requires byte-table-requires position-table-requires loop-holds word-requires
+    print-flips-requires add-i loop-less loop-again returns)

@@ -43,16 +43,5 @@ returns c = search needs
 pub print-word-spec : {M : Type 1} → statement M
 print-word-spec =
     tie.close
-    (tie.spec
-    Inv-loop
-    μ-loop
-    loop-holds
-    array-read-wide
-    wide-requires
-    print-hex-requires
-    add-k
-    loop-less
-    loop-again
-    slice-aggregate-write-all
-    write-all-requires
-    returns)
+    (tie.spec Inv-loop μ-loop loop-holds array-read-wide wide-requires print-hex-requires add-k loop-less loop-again slice-aggregate-write-all
+    write-all-requires returns)

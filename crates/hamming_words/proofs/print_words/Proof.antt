@@ -34,13 +34,4 @@ returns c = search needs
 pub print-words-spec : {M : Type 1} → statement M
 print-words-spec =
     tie.close
-    (tie.spec
-    Inv-loop
-    μ-loop
-    loop-holds
-    word-requires
-    print-word-requires
-    add-i
-    loop-less
-    loop-again
-    returns)
+    (tie.spec Inv-loop μ-loop loop-holds word-requires print-word-requires add-i loop-less loop-again returns)

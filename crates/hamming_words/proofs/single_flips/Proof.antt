@@ -40,15 +40,4 @@ returns c = search needs
 pub single-flips-spec : {M : Type 1} → statement M
 single-flips-spec =
     tie.close
-    (tie.spec
-    Inv-loop
-    μ-loop
-    loop-holds
-    flip-requires
-    repaired-requires
-    put-right-requires
-    add-n
-    add-i
-    loop-less
-    loop-again
-    returns)
+    (tie.spec Inv-loop μ-loop loop-holds flip-requires repaired-requires put-right-requires add-n add-i loop-less loop-again returns)

@@ -39,13 +39,4 @@ returns c = begun-all (begun-to (256 * wordBytes) (c .before .loop .inv .1) (ome
 pub byte-table-spec : {M : Type 1} → statement M
 byte-table-spec =
     tie.close
-    (tie.spec
-    Inv-loop
-    μ-loop
-    column-table-requires
-    loop-holds
-    fill-row-requires
-    add-k
-    loop-less
-    loop-again
-    returns)
+    (tie.spec Inv-loop μ-loop column-table-requires loop-holds fill-row-requires add-k loop-less loop-again returns)

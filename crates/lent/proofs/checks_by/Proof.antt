@@ -56,18 +56,5 @@ returns c = summed-all (c .before .loop .inv) (c .loop-test .left)
 pub checks-by-spec : {M : Type 1} → statement M
 checks-by-spec =
     tie.close
-    (tie.spec
-    Inv-loop
-    μ-loop
-    loop-holds
-    mul-sum
-    array-read-wide
-    wide-requires
-    cast-sum
-    add-sum
-    mul-sum-2
-    element-copy-out-sum
-    add-k
-    loop-less
-    loop-again
-    returns)
+    (tie.spec Inv-loop μ-loop loop-holds mul-sum array-read-wide wide-requires cast-sum add-sum mul-sum-2 element-copy-out-sum add-k loop-less
+    loop-again returns)

@@ -61,18 +61,4 @@ returns c =
 pub double-spec : {M : Type 1} → statement M
 double-spec =
     tie.close
-    (tie.spec
-    Inv-loop
-    μ-loop
-    loop-holds
-    add-t
-    mul-t
-    element-copy-out-t
-    add-t-2
-    add-t-3
-    mul-t-2
-    element-write-t
-    add-r
-    loop-less
-    loop-again
-    returns)
+    (tie.spec Inv-loop μ-loop loop-holds add-t mul-t element-copy-out-t add-t-2 add-t-3 mul-t-2 element-write-t add-r loop-less loop-again returns)

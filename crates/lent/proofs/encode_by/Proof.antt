@@ -34,9 +34,4 @@ returns c =
 pub encode-by-spec : {M : Type 1} → statement M
 encode-by-spec =
     tie.close
-    (tie.spec
-    join-requires
-    checks-by-requires
-    entry-at-requires
-    join-requires-2
-    returns)
+    (tie.spec join-requires checks-by-requires entry-at-requires join-requires-2 returns)

@@ -85,22 +85,5 @@ returns c =
 pub fill-row-spec : {M : Type 1} → statement M
 fill-row-spec =
     tie.close
-    (tie.spec
-    Inv-loop
-    μ-loop
-    mul-t
-    mul-t-2
-    element-write-t
-    loop-holds
-    mul-double
-    mul-double-2
-    add-double
-    sub-double
-    mul-double-3
-    element-copy-out-double
-    double-requires
-    mul-n
-    add-j
-    loop-less
-    loop-again
-    returns)
+    (tie.spec Inv-loop μ-loop mul-t mul-t-2 element-write-t loop-holds mul-double mul-double-2 add-double sub-double mul-double-3
+    element-copy-out-double double-requires mul-n add-j loop-less loop-again returns)

@@ -80,21 +80,5 @@ returns c = summed-all (c .before .loop .inv) (c .loop-test .left)
 pub checks-inside-spec : {M : Type 1} → statement M
 checks-inside-spec =
     tie.close
-    (tie.spec
-    Inv-loop
-    μ-loop
-    mul-group
-    loop-holds
-    mul-sum
-    in-group-requires
-    add-wide
-    shared-slice-read-wide
-    wide-requires
-    cast-sum
-    add-sum
-    mul-sum-2
-    element-copy-out-sum
-    add-k
-    loop-less
-    loop-again
-    returns)
+    (tie.spec Inv-loop μ-loop mul-group loop-holds mul-sum in-group-requires add-wide shared-slice-read-wide wide-requires cast-sum add-sum mul-sum-2
+    element-copy-out-sum add-k loop-less loop-again returns)

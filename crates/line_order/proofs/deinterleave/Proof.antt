@@ -42,15 +42,5 @@ returns c = search loops
 pub deinterleave-spec : {M : Type 1} → statement M
 deinterleave-spec =
     tie.close
-    (tie.spec
-    Inv-loop
-    μ-loop
-    loop-holds
-    slice-aggregate-word-inside
-    word-inside-requires
-    mul-words
-    array-set-from-words
-    add-w
-    loop-less
-    loop-again
+    (tie.spec Inv-loop μ-loop loop-holds slice-aggregate-word-inside word-inside-requires mul-words array-set-from-words add-w loop-less loop-again
     returns)

@@ -53,15 +53,5 @@ returns c =
 pub interleave-spec : {M : Type 1} → statement M
 interleave-spec =
     tie.close
-    (tie.spec
-    Inv-loop
-    μ-loop
-    loop-holds
-    slice-aggregate-put-inside
-    mul-put-inside
-    array-copy-out-put-inside
-    put-inside-requires
-    add-w
-    loop-less
-    loop-again
-    returns)
+    (tie.spec Inv-loop μ-loop loop-holds slice-aggregate-put-inside mul-put-inside array-copy-out-put-inside put-inside-requires add-w loop-less
+    loop-again returns)

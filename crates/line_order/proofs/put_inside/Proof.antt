@@ -65,17 +65,5 @@ returns c = folded-all 16 (c .before .loop .inv .0) (c .before .loop .inv .2) (c
 pub put-inside-spec : {M : Type 1} → statement M
 put-inside-spec =
     tie.close
-    (tie.spec
-    Inv-loop
-    μ-loop
-    mul-group
-    loop-holds
-    array-read-capture
-    in-group-requires
-    add-capture
-    slice-write-capture
-    add-s
-    loop-less
-    loop-again
-    same-length
-    returns)
+    (tie.spec Inv-loop μ-loop mul-group loop-holds array-read-capture in-group-requires add-capture slice-write-capture add-s loop-less loop-again
+    same-length returns)

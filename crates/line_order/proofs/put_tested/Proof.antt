@@ -48,14 +48,4 @@ returns c = folded-all 16 (c .before .loop .inv .0) (c .before .loop .inv .2) (c
 pub put-tested-spec : {M : Type 1} → statement M
 put-tested-spec =
     tie.close
-    (tie.spec
-    Inv-loop
-    μ-loop
-    loop-holds
-    array-read-put-symbol
-    put-symbol-requires
-    add-k
-    loop-less
-    loop-again
-    same-length
-    returns)
+    (tie.spec Inv-loop μ-loop loop-holds array-read-put-symbol put-symbol-requires add-k loop-less loop-again same-length returns)

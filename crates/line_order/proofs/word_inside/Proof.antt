@@ -60,16 +60,4 @@ returns c = search loops
 pub word-inside-spec : {M : Type 1} → statement M
 word-inside-spec =
     tie.close
-    (tie.spec
-    Inv-loop
-    μ-loop
-    mul-group
-    loop-holds
-    in-group-requires
-    add-r
-    shared-slice-read-r
-    array-write-r
-    add-k
-    loop-less
-    loop-again
-    returns)
+    (tie.spec Inv-loop μ-loop mul-group loop-holds in-group-requires add-r shared-slice-read-r array-write-r add-k loop-less loop-again returns)

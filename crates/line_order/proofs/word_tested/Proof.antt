@@ -50,14 +50,4 @@ returns c = search loops
 pub word-tested-spec : {M : Type 1} → statement M
 word-tested-spec =
     tie.close
-    (tie.spec
-    Inv-loop
-    μ-loop
-    loop-holds
-    place-below-requires
-    byte-at-requires
-    array-write-r
-    add-k
-    loop-less
-    loop-again
-    returns)
+    (tie.spec Inv-loop μ-loop loop-holds place-below-requires byte-at-requires array-write-r add-k loop-less loop-again returns)

@@ -41,14 +41,4 @@ returns c = search loops
 pub digest-numbers-spec : {M : Type 1} → statement M
 digest-numbers-spec =
     tie.close
-    (tie.spec
-    Inv-loop
-    μ-loop
-    loop-holds
-    mul-take-number
-    shared-slice-read-take-number
-    take-number-requires
-    add-k
-    loop-less
-    loop-again
-    returns)
+    (tie.spec Inv-loop μ-loop loop-holds mul-take-number shared-slice-read-take-number take-number-requires add-k loop-less loop-again returns)

@@ -51,16 +51,4 @@ returns c = record { filled = search loops; state = at-end _ (c .before .loop .i
 pub fill-numbers-spec : {M : Type 1} → statement M
 fill-numbers-spec =
     tie.close
-    (tie.spec
-    Inv-loop
-    μ-loop
-    loop-holds
-    step-requires
-    output-requires
-    mul-out
-    slice-write-out
-    add-k
-    loop-less
-    loop-again
-    same-length
-    returns)
+    (tie.spec Inv-loop μ-loop loop-holds step-requires output-requires mul-out slice-write-out add-k loop-less loop-again same-length returns)

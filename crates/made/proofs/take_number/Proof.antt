@@ -46,16 +46,4 @@ returns c = search loops
 pub take-number-spec : {M : Type 1} → statement M
 take-number-spec =
     tie.close
-    (tie.spec
-    Inv-loop
-    μ-loop
-    loop-holds
-    mul-take
-    sub-take
-    cast-take
-    shr-take
-    take-requires
-    add-j
-    loop-less
-    loop-again
-    returns)
+    (tie.spec Inv-loop μ-loop loop-holds mul-take sub-take cast-take shr-take take-requires add-j loop-less loop-again returns)

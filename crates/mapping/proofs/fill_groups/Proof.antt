@@ -79,21 +79,5 @@ returns c =
 pub fill-groups-spec : {M : Type 1} → statement M
 fill-groups-spec =
     tie.close
-    (tie.spec
-    Inv-loop
-    μ-loop
-    data-in-requires
-    add-p-end
-    loop-holds
-    mul-at
-    add-least
-    least-requires
-    sub-fill-two
-    part-fill-two-start
-    part-fill-two-end
-    fill-two-requires
-    add-p
-    loop-less
-    loop-again
-    same-length
-    returns)
+    (tie.spec Inv-loop μ-loop data-in-requires add-p-end loop-holds mul-at add-least least-requires sub-fill-two part-fill-two-start part-fill-two-end
+    fill-two-requires add-p loop-less loop-again same-length returns)

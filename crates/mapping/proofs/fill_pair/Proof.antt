@@ -41,14 +41,4 @@ returns c = search loops
 pub fill-pair-spec : {M : Type 1} → statement M
 fill-pair-spec =
     tie.close
-    (tie.spec
-    Inv-loop
-    μ-loop
-    loop-holds
-    pair-byte-requires
-    slice-write-out
-    add-k
-    loop-less
-    loop-again
-    same-length
-    returns)
+    (tie.spec Inv-loop μ-loop loop-holds pair-byte-requires slice-write-out add-k loop-less loop-again same-length returns)

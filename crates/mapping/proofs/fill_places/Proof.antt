@@ -43,15 +43,5 @@ returns c =
 pub fill-places-spec : {M : Type 1} → statement M
 fill-places-spec =
     tie.close
-    (tie.spec
-    mul-m
-    data-in-requires
-    add-data-in
-    data-in-requires-2
-    add-data-in-2
-    data-in-requires-3
-    mul-fill-pair
-    mul-fill-pair-2
-    fill-pair-requires
-    same-length
-    returns)
+    (tie.spec mul-m data-in-requires add-data-in data-in-requires-2 add-data-in-2 data-in-requires-3 mul-fill-pair mul-fill-pair-2 fill-pair-requires
+    same-length returns)

@@ -41,14 +41,4 @@ returns c =
 pub fill-two-spec : {M : Type 1} → statement M
 fill-two-spec =
     tie.close
-    (tie.spec
-    mul-q
-    group-place-requires
-    mul-a
-    add-group-place
-    group-place-requires-2
-    mul-b
-    add-fill-pair
-    fill-pair-requires
-    same-length
-    returns)
+    (tie.spec mul-q group-place-requires mul-a add-group-place group-place-requires-2 mul-b add-fill-pair fill-pair-requires same-length returns)

@@ -58,18 +58,5 @@ returns c = filled-all _ (c .before .loop .inv .0) (omega arith) (omega arith)
 pub fill-window-spec : {M : Type 1} → statement M
 fill-window-spec =
     tie.close
-    (tie.spec
-    Inv-loop
-    μ-loop
-    loop-holds
-    mul-at
-    add-fill-places
-    sub-fill-places
-    part-fill-places-start
-    part-fill-places-end
-    fill-places-requires
-    add-p
-    loop-less
-    loop-again
-    same-length
-    returns)
+    (tie.spec Inv-loop μ-loop loop-holds mul-at add-fill-places sub-fill-places part-fill-places-start part-fill-places-end fill-places-requires add-p
+    loop-less loop-again same-length returns)

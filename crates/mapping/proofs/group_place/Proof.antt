@@ -46,15 +46,4 @@ returns-2 c = some-group _ _ _ _ (c .before .pre .0) (c .before .pre .1 .is) (c 
 pub group-place-spec : {M : Type 1} → statement M
 group-place-spec =
     tie.close
-    (tie.spec
-    returns
-    sub-result
-    mul-result
-    add-result
-    add-result-2
-    mul-result-2
-    sub-result-2
-    add-result-3
-    div-result
-    sub-result-3
-    returns-2)
+    (tie.spec returns sub-result mul-result add-result add-result-2 mul-result-2 sub-result-2 add-result-3 div-result sub-result-3 returns-2)

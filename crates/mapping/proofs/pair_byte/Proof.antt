@@ -52,19 +52,5 @@ returns-3 c = search pairs
 pub pair-byte-spec : {M : Type 1} → statement M
 pair-byte-spec =
     tie.close
-    (tie.spec
-    mul-eight
-    add-eight
-    eight-requires
-    returns
-    mul-eight-2
-    sub-eight
-    add-eight-2
-    eight-requires-2
-    returns-2
-    add-eight-3
-    eight-requires-3
-    mul-result
-    eight-requires-4
-    add-result
-    returns-3)
+    (tie.spec mul-eight add-eight eight-requires returns mul-eight-2 sub-eight add-eight-2 eight-requires-2 returns-2 add-eight-3 eight-requires-3
+    mul-result eight-requires-4 add-result returns-3)

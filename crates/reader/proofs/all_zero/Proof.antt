@@ -39,13 +39,4 @@ returns-2 c = some-all (c .before .before .args .t1) (search needs) (c .before .
 pub all-zero-spec : {M : Type 1} → statement M
 all-zero-spec =
     tie.close
-    (tie.spec
-    Inv-loop
-    μ-loop
-    loop-holds
-    array-read-if1
-    returns
-    add-k
-    loop-less
-    loop-again
-    returns-2)
+    (tie.spec Inv-loop μ-loop loop-holds array-read-if1 returns add-k loop-less loop-again returns-2)

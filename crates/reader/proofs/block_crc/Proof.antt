@@ -37,10 +37,4 @@ returns c =
 pub block-crc-spec : {M : Type 1} → statement M
 block-crc-spec =
     tie.close
-    (tie.spec
-    mul-copy
-    slice-aggregate-copy
-    copy-requires
-    slice-aggregate-crc
-    crc-requires
-    returns)
+    (tie.spec mul-copy slice-aggregate-copy copy-requires slice-aggregate-crc crc-requires returns)

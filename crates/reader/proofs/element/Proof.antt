@@ -45,11 +45,4 @@ returns-2 c =
 pub element-spec : {M : Type 1} → statement M
 element-spec =
     tie.close
-    (tie.spec
-    cast-slot
-    slot-requires
-    checks-requires
-    word-in-requires
-    returns
-    repair-word-requires
-    returns-2)
+    (tie.spec cast-slot slot-requires checks-requires word-in-requires returns repair-word-requires returns-2)

@@ -52,13 +52,4 @@ returns c =
 pub follow-spec : {M : Type 1} → statement M
 follow-spec =
     tie.close
-    (tie.spec
-    array-read-wide
-    wide-requires
-    mul-p
-    array-read-wide-2
-    wide-requires-2
-    add-p
-    cast-join
-    join-requires
-    returns)
+    (tie.spec array-read-wide wide-requires mul-p array-read-wide-2 wide-requires-2 add-p cast-join join-requires returns)

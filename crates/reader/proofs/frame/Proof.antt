@@ -132,32 +132,6 @@ returns c = filled-all superBytes (c .before .loop .inv .0) (omega arith) (searc
 pub frame-spec : {M : Type 1} → statement M
 frame-spec =
     tie.close
-    (tie.spec
-    Inv-loop
-    μ-loop
-    mul-element
-    element-requires
-    loop-holds
-    mul-element-2
-    add-element
-    add-element-2
-    element-requires-2
-    mul-a
-    sub-a
-    add-e
-    mul-e
-    add-e-2
-    sub-e
-    follow-requires
-    sub-put-bytes
-    part-put-bytes-start
-    part-put-bytes-end
-    sub-put-bytes-2
-    part-put-bytes-start-2
-    part-put-bytes-end-2
-    put-bytes-requires
-    add-l
-    loop-less
-    loop-again
-    same-length
-    returns)
+    (tie.spec Inv-loop μ-loop mul-element element-requires loop-holds mul-element-2 add-element add-element-2 element-requires-2 mul-a sub-a add-e
+    mul-e add-e-2 sub-e follow-requires sub-put-bytes part-put-bytes-start part-put-bytes-end sub-put-bytes-2 part-put-bytes-start-2
+    part-put-bytes-end-2 put-bytes-requires add-l loop-less loop-again same-length returns)

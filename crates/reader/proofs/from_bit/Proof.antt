@@ -53,15 +53,4 @@ returns c =
 pub from-bit-spec : {M : Type 1} → statement M
 from-bit-spec =
     tie.close
-    (tie.spec
-    Inv-loop
-    μ-loop
-    loop-holds
-    array-read-w
-    array-write-w
-    add-k
-    loop-less
-    loop-again
-    slice-aggregate-word-from
-    word-from-requires
-    returns)
+    (tie.spec Inv-loop μ-loop loop-holds array-read-w array-write-w add-k loop-less loop-again slice-aggregate-word-from word-from-requires returns)

@@ -51,15 +51,4 @@ returns-2 c = pad-zero (now (c .before .before .before .args .s)) (λ k h. c .be
 pub is-pad-off-spec : {M : Type 1} → statement M
 is-pad-off-spec =
     tie.close
-    (tie.spec
-    Inv-loop
-    μ-loop
-    loop-holds
-    mul-byte-from
-    add-byte-from
-    byte-from-requires
-    returns
-    add-k
-    loop-less
-    loop-again
-    returns-2)
+    (tie.spec Inv-loop μ-loop loop-holds mul-byte-from add-byte-from byte-from-requires returns add-k loop-less loop-again returns-2)

@@ -62,20 +62,5 @@ returns c =
 pub long-from-spec : {M : Type 1} → statement M
 long-from-spec =
     tie.close
-    (tie.spec
-    word-from-requires
-    array-read-wide
-    wide-requires
-    mul-result
-    array-read-wide-2
-    wide-requires-2
-    add-result
-    mul-result-2
-    array-read-wide-3
-    wide-requires-3
-    add-result-2
-    mul-result-3
-    array-read-wide-4
-    wide-requires-4
-    add-result-3
-    returns)
+    (tie.spec word-from-requires array-read-wide wide-requires mul-result array-read-wide-2 wide-requires-2 add-result mul-result-2 array-read-wide-3
+    wide-requires-3 add-result-2 mul-result-3 array-read-wide-4 wide-requires-4 add-result-3 returns)

@@ -59,16 +59,5 @@ returns c =
 pub put-bytes-spec : {M : Type 1} → statement M
 put-bytes-spec =
     tie.close
-    (tie.spec
-    Inv-loop
-    μ-loop
-    from-bit-requires
-    loop-holds
-    array-read-out
-    shared-slice-read-out
-    slice-write-out
-    add-k
-    loop-less
-    loop-again
-    same-length
+    (tie.spec Inv-loop μ-loop from-bit-requires loop-holds array-read-out shared-slice-read-out slice-write-out add-k loop-less loop-again same-length
     returns)

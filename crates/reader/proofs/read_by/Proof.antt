@@ -62,15 +62,5 @@ returns-2 c =
 pub read-by-spec : {M : Type 1} → statement M
 read-by-spec =
     tie.close
-    (tie.spec
-    tally-words-requires
-    tally-frames-requires
-    cast-verdict
-    verdict-requires
-    write-frames-requires
-    same-length
-    same-length-2
-    same-length-3
-    returns
-    same-length-4
-    returns-2)
+    (tie.spec tally-words-requires tally-frames-requires cast-verdict verdict-requires write-frames-requires same-length same-length-2 same-length-3
+    returns same-length-4 returns-2)

@@ -29,11 +29,4 @@ returns c = rw (c .sought2 .ensures, c .before .is-crc-off .ensures, c .before .
 pub take-block-spec : {M : Type 1} → statement M
 take-block-spec =
     tie.close
-    (tie.spec
-    mul-t
-    add-t
-    is-mbas-off-requires
-    sought-requires
-    is-crc-off-requires
-    sought-requires-2
-    returns)
+    (tie.spec mul-t add-t is-mbas-off-requires sought-requires is-crc-off-requires sought-requires-2 returns)

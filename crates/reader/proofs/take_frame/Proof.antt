@@ -36,10 +36,4 @@ returns c =
 pub take-frame-spec : {M : Type 1} → statement M
 take-frame-spec =
     tie.close
-    (tie.spec
-    frame-requires
-    take-blocks-requires
-    is-pad-off-requires
-    sought-requires
-    same-length
-    returns)
+    (tie.spec frame-requires take-blocks-requires is-pad-off-requires sought-requires same-length returns)

@@ -102,19 +102,5 @@ returns-2 c =
 pub take-word-spec : {M : Type 1} → statement M
 take-word-spec =
     tie.close
-    (tie.spec
-    checks-requires
-    is-plain-requires
-    sought-requires
-    sought-requires-2
-    returns
-    word-in-requires
-    repair-word-requires
-    number-requires
-    sought-requires-3
-    is-filled-requires
-    sought-requires-4
-    is-found-requires
-    one-if-requires
-    add-t22
-    returns-2)
+    (tie.spec checks-requires is-plain-requires sought-requires sought-requires-2 returns word-in-requires repair-word-requires number-requires
+    sought-requires-3 is-filled-requires sought-requires-4 is-found-requires one-if-requires add-t22 returns-2)

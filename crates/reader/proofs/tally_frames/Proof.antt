@@ -47,14 +47,4 @@ returns c =
 pub tally-frames-spec : {M : Type 1} → statement M
 tally-frames-spec =
     tie.close
-    (tie.spec
-    Inv-loop
-    μ-loop
-    table-requires
-    loop-holds
-    take-frame-requires
-    add-f
-    loop-less
-    loop-again
-    same-length
-    returns)
+    (tie.spec Inv-loop μ-loop table-requires loop-holds take-frame-requires add-f loop-less loop-again same-length returns)

@@ -46,14 +46,4 @@ returns c =
 pub tally-words-spec : {M : Type 1} → statement M
 tally-words-spec =
     tie.close
-    (tie.spec
-    Inv-loop
-    μ-loop
-    mul-w-end
-    add-w-end
-    loop-holds
-    take-word-requires
-    add-w
-    loop-less
-    loop-again
-    returns)
+    (tie.spec Inv-loop μ-loop mul-w-end add-w-end loop-holds take-word-requires add-w loop-less loop-again returns)

@@ -106,28 +106,5 @@ returns c =
 pub write-blocks-spec : {M : Type 1} → statement M
 write-blocks-spec =
     tie.close
-    (tie.spec
-    Inv-loop
-    μ-loop
-    loop-holds
-    mul-i
-    mul-p
-    mul-copy
-    add-copy
-    sub-copy
-    part-copy-start
-    part-copy-end
-    copy-requires
-    mul-copy-2
-    add-copy-2
-    add-copy-3
-    sub-copy-2
-    part-copy-start-2
-    part-copy-end-2
-    copy-requires-2
-    add-b
-    loop-less
-    loop-again
-    same-length
-    same-length-2
-    returns)
+    (tie.spec Inv-loop μ-loop loop-holds mul-i mul-p mul-copy add-copy sub-copy part-copy-start part-copy-end copy-requires mul-copy-2 add-copy-2
+    add-copy-3 sub-copy-2 part-copy-start-2 part-copy-end-2 copy-requires-2 add-b loop-less loop-again same-length same-length-2 returns)

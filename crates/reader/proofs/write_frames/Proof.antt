@@ -107,26 +107,6 @@ returns c =
 pub write-frames-spec : {M : Type 1} → statement M
 write-frames-spec =
     tie.close
-    (tie.spec
-    Inv-loop
-    μ-loop
-    loop-holds
-    mul-i
-    mul-p
-    frame-requires
-    add-write-blocks
-    sub-write-blocks
-    part-write-blocks-start
-    part-write-blocks-end
-    add-write-blocks-2
-    sub-write-blocks-2
-    part-write-blocks-start-2
-    part-write-blocks-end-2
-    write-blocks-requires
-    add-f
-    loop-less
-    loop-again
-    same-length
-    same-length-2
-    same-length-3
-    returns)
+    (tie.spec Inv-loop μ-loop loop-holds mul-i mul-p frame-requires add-write-blocks sub-write-blocks part-write-blocks-start part-write-blocks-end
+    add-write-blocks-2 sub-write-blocks-2 part-write-blocks-start-2 part-write-blocks-end-2 write-blocks-requires add-f loop-less loop-again
+    same-length same-length-2 same-length-3 returns)

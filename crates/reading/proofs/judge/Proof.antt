@@ -63,16 +63,5 @@ returns-2 c =
 pub judge-spec : {M : Type 1} → statement M
 judge-spec =
     tie.close
-    (tie.spec
-    numbers-allowed-requires
-    refuse-requires
-    returns
-    mul-capture-bytes
-    add-capture-bytes
-    granted-requires
-    mul-refuse-length
-    refuse-length-requires
-    mul-refuse-length-2
-    refuse-length-requires-2
-    refuse-length-requires-3
-    returns-2)
+    (tie.spec numbers-allowed-requires refuse-requires returns mul-capture-bytes add-capture-bytes granted-requires mul-refuse-length
+    refuse-length-requires mul-refuse-length-2 refuse-length-requires-2 refuse-length-requires-3 returns-2)

@@ -38,14 +38,5 @@ returns c = cc
 pub verdict-spec : {M : Type 1} → statement M
 verdict-spec =
     tie.close
-    (tie.spec
-    mul-words
-    add-words
-    mul-blocks
-    granted-requires
-    refuse-if-requires
-    refuse-if-requires-2
-    refuse-if-requires-3
-    refuse-if-requires-4
-    refuse-if-requires-5
-    returns)
+    (tie.spec mul-words add-words mul-blocks granted-requires refuse-if-requires refuse-if-requires-2 refuse-if-requires-3 refuse-if-requires-4
+    refuse-if-requires-5 returns)

@@ -54,13 +54,4 @@ returns c = tt
 pub print-runs-spec : {M : Type 1} → statement M
 print-runs-spec =
     tie.close
-    (tie.spec
-    Inv-loop
-    μ-loop
-    loop-holds
-    run-requires
-    print-run-requires
-    add-j
-    loop-less
-    loop-again
-    returns)
+    (tie.spec Inv-loop μ-loop loop-holds run-requires print-run-requires add-j loop-less loop-again returns)

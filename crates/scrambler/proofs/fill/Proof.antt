@@ -59,14 +59,5 @@ returns-2 c =
 pub fill-spec : {M : Type 1} → statement M
 fill-spec =
     tie.close
-    (tie.spec
-    begin-requires
-    begin-requires-2
-    go-on-requires
-    go-on-requires-2
-    go-on-requires-3
-    go-on-requires-4
-    same-length
-    returns
-    same-length-2
+    (tie.spec begin-requires begin-requires-2 go-on-requires go-on-requires-2 go-on-requires-3 go-on-requires-4 same-length returns same-length-2
     returns-2)

@@ -94,25 +94,5 @@ returns c =
 pub go-on-spec : {M : Type 1} → statement M
 go-on-spec =
     tie.close
-    (tie.spec
-    Inv-loop
-    μ-loop
-    mul-k
-    loop-holds
-    sub-out
-    slice-read-out
-    mul-out
-    sub-out-2
-    slice-read-out-2
-    mul-out-2
-    sub-out-3
-    slice-read-out-3
-    mul-out-3
-    sub-out-4
-    slice-read-out-4
-    slice-write-out
-    add-k
-    loop-less
-    loop-again
-    same-length
-    returns)
+    (tie.spec Inv-loop μ-loop mul-k loop-holds sub-out slice-read-out mul-out sub-out-2 slice-read-out-2 mul-out-2 sub-out-3 slice-read-out-3
+    mul-out-3 sub-out-4 slice-read-out-4 slice-write-out add-k loop-less loop-again same-length returns)

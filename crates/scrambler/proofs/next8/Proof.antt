@@ -45,13 +45,4 @@ returns c =
 pub next8-spec : {M : Type 1} → statement M
 next8-spec =
     tie.close
-    (tie.spec
-    next-requires
-    next-requires-2
-    next-requires-3
-    next-requires-4
-    next-requires-5
-    next-requires-6
-    next-requires-7
-    next-requires-8
-    returns)
+    (tie.spec next-requires next-requires-2 next-requires-3 next-requires-4 next-requires-5 next-requires-6 next-requires-7 next-requires-8 returns)

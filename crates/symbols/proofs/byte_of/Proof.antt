@@ -58,15 +58,5 @@ returns c =
 pub byte-of-spec : {M : Type 1} → statement M
 byte-of-spec =
     tie.close
-    (tie.spec
-    pair-requires
-    mul-result
-    pair-requires-2
-    mul-result-2
-    add-result
-    pair-requires-3
-    mul-result-3
-    add-result-2
-    pair-requires-4
-    add-result-3
+    (tie.spec pair-requires mul-result pair-requires-2 mul-result-2 add-result pair-requires-3 mul-result-3 add-result-2 pair-requires-4 add-result-3
     returns)

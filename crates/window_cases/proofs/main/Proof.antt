@@ -88,31 +88,6 @@ returns c = search needs
 pub main-spec : {M : Type 1} → statement M
 main-spec =
     tie.close
-    (tie.spec
-    Inv-loop
-    μ-loop
-    loop-holds
-    mul-i
-    add-run
-    mul-run
-    array-read-run
-    add-run-2
-    mul-run-2
-    array-read-run-2
-    add-run-3
-    mul-run-3
-    array-read-run-3
-    add-run-4
-    mul-run-4
-    array-read-run-4
-    add-run-5
-    mul-run-5
-    array-read-run-5
-    add-run-6
-    mul-run-6
-    array-read-run-6
-    run-requires
-    add-k
-    loop-less
-    loop-again
-    returns)
+    (tie.spec Inv-loop μ-loop loop-holds mul-i add-run mul-run array-read-run add-run-2 mul-run-2 array-read-run-2 add-run-3 mul-run-3
+    array-read-run-3 add-run-4 mul-run-4 array-read-run-4 add-run-5 mul-run-5 array-read-run-5 add-run-6 mul-run-6 array-read-run-6 run-requires add-k
+    loop-less loop-again returns)

@@ -51,17 +51,5 @@ returns-2 c = search (map-late, turns)
 pub map-answer-spec : {M : Type 1} → statement M
 map-answer-spec =
     tie.close
-    (tie.spec
-    outside-window-requires
-    refuse-requires
-    returns
-    data-in-requires
-    group-bytes-requires
-    window-bytes-requires
-    spare-set-requires
-    buffer-place-requires
-    granted-requires
-    refuse-if-requires
-    refuse-length-requires
-    refuse-length-requires-2
-    returns-2)
+    (tie.spec outside-window-requires refuse-requires returns data-in-requires group-bytes-requires window-bytes-requires spare-set-requires
+    buffer-place-requires granted-requires refuse-if-requires refuse-length-requires refuse-length-requires-2 returns-2)

@@ -42,14 +42,5 @@ returns-2 c = search (unmap-late, turns)
 pub unmap-answer-spec : {M : Type 1} → statement M
 unmap-answer-spec =
     tie.close
-    (tie.spec
-    outside-window-requires
-    refuse-requires
-    returns
-    data-in-requires
-    window-bytes-requires
-    group-bytes-requires
-    granted-requires
-    refuse-length-requires
-    refuse-length-requires-2
-    returns-2)
+    (tie.spec outside-window-requires refuse-requires returns data-in-requires window-bytes-requires group-bytes-requires granted-requires
+    refuse-length-requires refuse-length-requires-2 returns-2)

@@ -46,17 +46,5 @@ returns c = search needs
 pub say-word-spec : {M : Type 1} → statement M
 say-word-spec =
     tie.close
-    (tie.spec
-    Inv-loop
-    μ-loop
-    text-requires
-    loop-holds
-    array-read-wide
-    wide-requires
-    print-hex-requires
-    add-k
-    loop-less
-    loop-again
-    slice-aggregate-text
-    text-requires-2
-    returns)
+    (tie.spec Inv-loop μ-loop text-requires loop-holds array-read-wide wide-requires print-hex-requires add-k loop-less loop-again
+    slice-aggregate-text text-requires-2 returns)

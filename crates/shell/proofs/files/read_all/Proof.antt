@@ -54,19 +54,5 @@ returns-2 c = search needs
 pub read-all-spec : {M : Type 1} → statement M
 read-all-spec =
     tie.close
-    (tie.spec
-    Inv-loop
-    μ-loop
-    loop-holds
-    sub-read
-    part-read-start
-    part-read-end
-    read-requires
-    count-requires
-    same-length
-    returns
-    moved-requires
-    loop-less
-    loop-again
-    same-length-2
-    returns-2)
+    (tie.spec Inv-loop μ-loop loop-holds sub-read part-read-start part-read-end read-requires count-requires same-length returns moved-requires
+    loop-less loop-again same-length-2 returns-2)

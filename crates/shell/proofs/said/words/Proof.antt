@@ -40,15 +40,4 @@ returns c = search needs
 pub words-spec : {M : Type 1} → statement M
 words-spec =
     tie.close
-    (tie.spec
-    Inv-loop
-    μ-loop
-    loop-holds
-    mul-say-word
-    element-copy-out-say-word
-    say-word-requires
-    add-k
-    loop-less
-    loop-again
-    end-line-requires
-    returns)
+    (tie.spec Inv-loop μ-loop loop-holds mul-say-word element-copy-out-say-word say-word-requires add-k loop-less loop-again end-line-requires returns)

@@ -45,16 +45,4 @@ returns c = search needs
 pub case-spec : {M : Type 1} → statement M
 case-spec =
     tie.close
-    (tie.spec
-    Inv-loop
-    μ-loop
-    name-requires
-    start-requires
-    code-requires
-    loop-holds
-    hurt-requires
-    add-i
-    loop-less
-    loop-again
-    same-length
-    returns)
+    (tie.spec Inv-loop μ-loop name-requires start-requires code-requires loop-holds hurt-requires add-i loop-less loop-again same-length returns)

@@ -36,13 +36,4 @@ returns c = search needs
 pub turn-all-spec : {M : Type 1} → statement M
 turn-all-spec =
     tie.close
-    (tie.spec
-    Inv-loop
-    μ-loop
-    loop-holds
-    turn-some-requires
-    add-w
-    loop-less
-    loop-again
-    same-length
-    returns)
+    (tie.spec Inv-loop μ-loop loop-holds turn-some-requires add-w loop-less loop-again same-length returns)

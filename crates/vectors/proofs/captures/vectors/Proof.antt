@@ -55,20 +55,5 @@ returns c = search needs
 pub vectors-spec : {M : Type 1} → statement M
 vectors-spec =
     tie.close
-    (tie.spec
-    Inv-loop
-    μ-loop
-    loop-holds
-    add-sized
-    sized-requires
-    add-sized-2
-    sized-requires-2
-    add-sized-3
-    sized-requires-3
-    add-sized-4
-    mul-sized
-    sized-requires-4
-    add-n
-    loop-less
-    loop-again
-    returns)
+    (tie.spec Inv-loop μ-loop loop-holds add-sized sized-requires add-sized-2 sized-requires-2 add-sized-3 sized-requires-3 add-sized-4 mul-sized
+    sized-requires-4 add-n loop-less loop-again returns)

@@ -34,13 +34,4 @@ returns c = search needs
 pub table-7-spec : {M : Type 1} → statement M
 table-7-spec =
     tie.close
-    (tie.spec
-    Inv-loop
-    μ-loop
-    loop-holds
-    sub-table-7-row
-    table-7-row-requires
-    add-i
-    loop-less
-    loop-again
-    returns)
+    (tie.spec Inv-loop μ-loop loop-holds sub-table-7-row table-7-row-requires add-i loop-less loop-again returns)

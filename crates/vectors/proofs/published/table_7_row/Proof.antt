@@ -46,17 +46,5 @@ returns c = search needs
 pub table-7-row-spec : {M : Type 1} → statement M
 table-7-row-spec =
     tie.close
-    (tie.spec
-    Inv-loop
-    μ-loop
-    slice-aggregate-number
-    number-requires
-    slice-aggregate-text
-    text-requires
-    loop-holds
-    stuff-run-requires
-    add-i
-    loop-less
-    loop-again
-    end-line-requires
-    returns)
+    (tie.spec Inv-loop μ-loop slice-aggregate-number number-requires slice-aggregate-text text-requires loop-holds stuff-run-requires add-i loop-less
+    loop-again end-line-requires returns)
