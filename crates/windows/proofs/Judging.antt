@@ -61,14 +61,12 @@ map-taken c f n g l e z =
       window = window-in c f n refl (p .0);
     }
 
-pub record UnmapTaken (c f n l k : ℕ) : Type 0 where
-  pub window-length : l ≡ windowBytes n
+pub record UnmapTaken (c f n k : ℕ) : Type 0 where
   pub groups-length : k ≡ groupBytes (dataFrom c f n)
   pub window : Window c f n
 
-pub unmap-taken : (c f n l k : ℕ) {a : Answer} → a ≡ unmapAnswer c f n l k → a .number ≡ allDone → UnmapTaken c f n l k
+pub unmap-taken : (c f n l k : ℕ) {a : Answer} → a ≡ unmapAnswer c f n l k → a .number ≡ allDone → UnmapTaken c f n k
 unfolding unmapAnswer rising rowNumber Passed RowPassed NoFault
 unmap-taken c f n l k e z =
     let p = granted-passed (unmapRows c f n l k) (dataFrom c f n) refl e z in
-    let lengths = p .1 .0 in
-    record { window-length = right-length (lengths .0); groups-length = right-length (lengths .1 .0); window = window-in c f n refl (p .0) }
+    record { groups-length = right-length (p .1 .0 .1 .0); window = window-in c f n refl (p .0) }
