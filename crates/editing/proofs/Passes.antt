@@ -3,13 +3,9 @@ use Prim.Native.Nat.{ℕ, zero, suc, _+_, _-_, _≤_, _<_}
 use mathlib.Core.Bool.{Bool, true, false, cond}
 use mathlib.Core.Path.{_≡_, refl, sym, ap, ap₂, _∙_}
 use mathlib.Core.List.{List, _++_}
-use mathlib.Core.Logic.{⊎-elim}
-use native.Mathlib.Nat.{eq-or-lt-of-le, add-zero, add-suc}
+use native.Mathlib.Nat.{add-zero, add-suc}
 use native.Mathlib.Numerals.{add-one}
-use native.Mathlib.Decide.{ℕ-discrete}
 use native.Mathlib.Omega.{arith}
-use borrow.Author.Tests.{ltb-true, ltb-false, lt-ltb, le-ltb, eq-eqb, ne-eqb}
-use lib.Dec.{ltb, eqb}
 use lib.ListN.{length, set, drop, length-append, length-drop}
 use Rattle.bits.specs.Loops.{count}
 use Rattle.hamming.proofs.Words.{coded-long}
@@ -18,7 +14,7 @@ use Rattle.line.specs.Frames.{superOf, elementOf}
 use Rattle.line.specs.Slots.{slotBit}
 use Rattle.line_order.specs.Order.{laid, wordIn}
 use Rattle.line.specs.Words.{wordsOf, fecIn}
-use Rattle.line_order.proofs.OrderLaws.{length-laid, length-word, word-laid, laid-ext, laid-words, put-laid}
+use Rattle.line_order.proofs.OrderLaws.{done-here, done-past, done-step, done-same, length-laid, length-word, word-laid, laid-ext, laid-words, put-laid}
 use Rattle.editing.specs.Edit.{fecOf, crcChange, editedFec, listed, picked, listOf, editedWord, editedCapture}
 use Rattle.editing.specs.Steps.{remade, mixed, listing, Passing, Turned}
 use Rattle.editing.proofs.Picking.{length-picked, picked-no, picked-set, count-yes, count-no}
@@ -45,53 +41,20 @@ module _ (N b : ℕ) (bits parity cap : List ℕ) where
   abbrev mix : ℕ → ℕ → List ℕ
   mix = mixed N b bits parity cap
 
-  mixed-past : (w x : ℕ) → w ≤ x → mix w x ≡ wordIn cap x
-  unfolding mixed
-  mixed-past w x h = rw (le-ltb x w h)
-
-  mixed-done : (w x : ℕ) → x < w → mix w x ≡ editedWord N b bits parity cap x
-  unfolding mixed
-  mixed-done w x h = rw (lt-ltb x w h)
-
-  mixed-long : (w x : ℕ) → length (mix w x) ≡ 16
-  unfolding mixed
-  mixed-long w x = by (ltb x w)
-    where
-      by : (t : Bool) → length (cond t (editedWord N b bits parity cap x) (wordIn cap x)) ≡ 16
-      by true = edited-long N b bits parity cap x
-      by false = length-word cap x
-
-  -- a turn changes no other word
-  mixed-other : (w x : ℕ) → (x ≡ w → ⊥) → mix w x ≡ mix (suc w) x
-  unfolding mixed
-  mixed-other w x n = by (ltb x w) refl
-    where
-      by : (t : Bool) → ltb x w ≡ t → cond t (editedWord N b bits parity cap x) (wordIn cap x) ≡ cond (ltb x (suc w)) (editedWord N b bits parity cap x)
-          (wordIn cap x)
-      by true e = rw (lt-ltb x (suc w) (omega (arith, ltb-true x w e)))
-      by false e = rw (le-ltb x (suc w) (past (ltb-false x w e)))
-        where
-          past : w ≤ x → suc w ≤ x
-          past h = ⊎-elim (λ q. absurd (n (sym q))) (λ l. l) (eq-or-lt-of-le h)
-
   -- the word of this turn is as it was received
   mixed-here : (w : ℕ) → w < words N → wordIn (laid N (mix w)) w ≡ wordIn cap w
-  mixed-here w h = word-laid N (mix w) w h (mixed-long w w) ∙ mixed-past w w (omega arith)
+  mixed-here w h =
+      let e = done-past w w (editedWord N b bits parity cap) (wordIn cap) (omega arith) in
+      word-laid N (mix w) w h (ap length e ∙ length-word cap w) ∙ e
 
   mixed-put : (w : ℕ) (v : List ℕ) → w < words N → v ≡ editedWord N b bits parity cap w → putWord (laid N (mix w)) w v ≡ laid N (mix (suc w))
-  unfolding changed
-  mixed-put w v h e = put-laid N (mix w) w v h ∙ laid-ext N (changed (mix w) w v) (mix (suc w)) (λ x l. by x (ℕ-discrete x w))
-    where
-      by : (x : ℕ) → Dec (x ≡ w) → cond (eqb x w) v (mix w x) ≡ mix (suc w) x
-      by x (yes q) = rw (eq-eqb x w q) (e ∙ rw q (sym (mixed-done (suc w) w (omega arith))))
-      by x (no n) = rw (ne-eqb x w n) (mixed-other w x n)
+  mixed-put w v h e =
+      ap (putWord (laid N (mix w)) w) e ∙ put-laid N (mix w) w (editedWord N b bits parity cap w) h
+      ∙ laid-ext N (changed (mix w) w (editedWord N b bits parity cap w)) (mix (suc w)) (λ x l. done-step w x (editedWord N b bits parity cap) (wordIn cap))
 
   mixed-skip : (w : ℕ) → listed N b w ≡ false → laid N (mix w) ≡ laid N (mix (suc w))
-  mixed-skip w e = laid-ext N (mix w) (mix (suc w)) (λ x l. by x (ℕ-discrete x w))
-    where
-      by : (x : ℕ) → Dec (x ≡ w) → mix w x ≡ mix (suc w) x
-      by x (yes q) = rw q (mixed-past w w (omega arith) ∙ sym (mixed-done (suc w) w (omega arith) ∙ edited-kept N b bits parity cap w e))
-      by x (no n) = mixed-other w x n
+  mixed-skip w e =
+      laid-ext N (mix w) (mix (suc w)) (λ x l. done-same w x (editedWord N b bits parity cap) (wordIn cap) (edited-kept N b bits parity cap w e))
 
 -- ---- the list so far
 
@@ -116,7 +79,9 @@ module _ (N b : ℕ) (bits parity cap₀ list₀ : List ℕ) where
   pub passing-start : length cap₀ ≡ captureLength N → Passing N b bits parity cap₀ list₀ 0 cap₀ list₀ 0
   unfolding listing picked count
   passing-start e = record {
-    capture = sym (laid-ext N (mixed N b bits parity cap₀ 0) (wordIn cap₀) (λ x l. mixed-past N b bits parity cap₀ 0 x (omega arith)) ∙ laid-words N cap₀ e);
+    capture =
+        sym (laid-ext N (mixed N b bits parity cap₀ 0) (wordIn cap₀) (λ x l. done-past 0 x (editedWord N b bits parity cap₀) (wordIn cap₀) (omega arith))
+        ∙ laid-words N cap₀ e);
     entries = refl;
     counted = refl;
   }
@@ -181,7 +146,9 @@ module _ (N b : ℕ) (bits parity cap₀ list₀ : List ℕ) where
   pub passing-capture : {c : ℕ} {cap list : List ℕ} → Passing N b bits parity cap₀ list₀ (words N) cap list c → cap ≡ editedCapture N b bits parity cap₀
   unfolding editedCapture
   passing-capture p =
-      p .capture ∙ laid-ext N (mixed N b bits parity cap₀ (words N)) (editedWord N b bits parity cap₀) (λ x l. mixed-done N b bits parity cap₀ (words N) x l)
+      p .capture
+      ∙ laid-ext N (mixed N b bits parity cap₀ (words N)) (editedWord N b bits parity cap₀)
+      (λ x l. done-here (words N) x (editedWord N b bits parity cap₀) (wordIn cap₀) l)
 
   pub passing-list : {c : ℕ} {cap list : List ℕ} → Passing N b bits parity cap₀ list₀ (words N) cap list c
       → list ≡ listOf N b ++ drop (count (listed N b) (words N)) list₀

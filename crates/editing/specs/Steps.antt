@@ -3,14 +3,13 @@ use Prim.Native.Nat.{ℕ, _+_, _-_, _*_, _/_, _%_, _≤_, _<_}
 use mathlib.Core.Bool.{false, cond}
 use mathlib.Core.Path.{_≡_}
 use mathlib.Core.List.{List, _++_}
-use lib.Dec.{ltb}
 use lib.ListN.{length, set, drop}
 use Rattle.bits.specs.Bits.{digit, bitAt, pack}
 use Rattle.bits.specs.Loops.{count}
 use Rattle.scrambler.specs.Scrambler.{o}
 use Rattle.hamming.specs.Code.{coded}
 use Rattle.matrix.specs.Steps.{tailTable}
-use Rattle.line_order.specs.Steps.{putWord}
+use Rattle.line_order.specs.Steps.{doneTo, putWord}
 use Rattle.lent.specs.Steps.{byteTable}
 use Rattle.sizes.specs.Sizes.{crcBits, parityFrom, parityBytes, fecBlocks, elementBits, superElements, fecElements, captureLength, longestWait, blocksOf}
 use Rattle.sizes.specs.Sizes.{blockBytes, listLength}
@@ -80,8 +79,8 @@ pub record Lent (scr t tails : List ℕ) : Type 0 where
 -- ---- the pass over the words: those below w are done
 
 -- the words of the capture so far
-unfoldable pub mixed : ℕ → ℕ → List ℕ → List ℕ → List ℕ → ℕ → ℕ → List ℕ
-mixed N b bits parity cap w x = cond (ltb x w) (editedWord N b bits parity cap x) (wordIn cap x)
+abbrev pub mixed : ℕ → ℕ → List ℕ → List ℕ → List ℕ → ℕ → ℕ → List ℕ
+mixed N b bits parity cap w = doneTo w (editedWord N b bits parity cap) (wordIn cap)
 
 -- the list so far: the words listed, and the entries that are not written yet
 unfoldable pub listing : ℕ → ℕ → List ℕ → ℕ → List ℕ

@@ -7,8 +7,8 @@ use mathlib.Core.List.{List}
 use native.Mathlib.Nat.{not-suc-le-zero}
 use native.Mathlib.Decide.{ℕ-discrete}
 use native.Mathlib.Omega.{arith}
-use borrow.Author.Tests.{ltb-true, ltb-false, lt-ltb, le-ltb, eq-eqb, ne-eqb}
-use lib.Dec.{lit<, ltb, eqb}
+use borrow.Author.Tests.{lt-ltb, le-ltb, eq-eqb, ne-eqb}
+use lib.Dec.{lit<, eqb}
 use lib.ListN.{length, getD, set, length-set, List·getD-eq-default}
 use lib.Seq.{getD-set-same, getD-set-other}
 use Rattle.bits.specs.Bits.{Bytes}
@@ -18,8 +18,44 @@ use Rattle.bits.proofs.Lists.{length-tabulate, getD-tabulate, getD-past, tabula
 use Rattle.sizes.specs.Sizes.{wordBytes, groupWords, captureLength, words}
 use Rattle.sizes.proofs.Equations.{capture-words}
 use Rattle.line_order.specs.Order.{Order, OneToOne, byteBy, laidBy, symbolBy, wordBy}
-use Rattle.line_order.specs.Steps.{putSymbolBy, putBy, replaceBy, changed, putWord}
+use Rattle.line_order.specs.Steps.{putSymbolBy, putBy, replaceBy, changed, doneTo, putWord}
 use Rattle.line_order.specs.Order.{groupSize, symbolPlace, wordAt, symbolAt, lineOrder, laid, wordIn}
+
+-- ---- words changed, one or those below k
+
+choose : (t : Bool) (v x : List ℕ) (k : ℕ) → cond t (getD v k 0) (getD x k 0) ≡ getD (cond t v x) k 0
+choose true v x k = refl
+choose false v x k = refl
+
+pub done-here : (k x : ℕ) (X W : ℕ → List ℕ) → x < k → doneTo k X W x ≡ X x
+unfolding doneTo
+done-here k x X W h = rw (lt-ltb x k h)
+
+pub done-past : (k x : ℕ) (X W : ℕ → List ℕ) → k ≤ x → doneTo k X W x ≡ W x
+unfolding doneTo
+done-past k x X W h = rw (le-ltb x k h)
+
+-- one more: no other word is changed by it, and none where the two words at k are the same
+done-other : (k x : ℕ) (X W : ℕ → List ℕ) → (x ≡ k → ⊥) → doneTo k X W x ≡ doneTo (suc k) X W x
+done-other k x X W ne =
+    by-bound k x (λ h. done-here k x X W h ∙ sym (done-here (suc k) x X W (omega arith)))
+    (λ h. done-past k x X W h ∙ sym (done-past (suc k) x X W (omega arith)))
+
+pub done-step : (k x : ℕ) (X W : ℕ → List ℕ) → changed (doneTo k X W) k (X k) x ≡ doneTo (suc k) X W x
+unfolding changed
+done-step k x X W = by (ℕ-discrete x k)
+  where
+    by : Dec (x ≡ k) → cond (eqb x k) (X k) (doneTo k X W x) ≡ doneTo (suc k) X W x
+    by (yes e) = rw (eq-eqb x k e) (ap X (sym e) ∙ sym (done-here (suc k) x X W (omega arith)))
+    by (no ne) = rw (ne-eqb x k ne) (done-other k x X W ne)
+
+pub done-same : (k x : ℕ) (X W : ℕ → List ℕ) → X k ≡ W k → doneTo k X W x ≡ doneTo (suc k) X W x
+done-same k x X W same = by (ℕ-discrete x k)
+  where
+    by : Dec (x ≡ k) → doneTo k X W x ≡ doneTo (suc k) X W x
+    by (yes e) =
+        done-past k x X W (omega arith) ∙ ap W e ∙ sym same ∙ ap X (sym e) ∙ sym (done-here (suc k) x X W (omega arith))
+    by (no ne) = done-other k x X W ne
 
 -- ---- any order: lengths and symbols
 
@@ -128,10 +164,6 @@ module _ (o : Order) (n l : ℕ) (one : OneToOne o n) (fits : l ≡ wordBytes * 
             ∙ put-here wordBytes (o .symbol b) (omega arith) (one .symbol-lt b m) (rw (back e, len) i))
         by (no ne) = rw (ne-eqb (o .word b) w ne) (put-other wordBytes b (omega arith) ne)
 
-  choose : (t : Bool) (v x : List ℕ) (k : ℕ) → cond t (getD v k 0) (getD x k 0) ≡ getD (cond t v x) k 0
-  choose true v x k = refl
-  choose false v x k = refl
-
   -- a word put into what was laid: the other words stay
   pub put-laidBy : (W : ℕ → List ℕ) (w : ℕ) (v : List ℕ) → w < n → putBy o (laidBy o l W) w v ≡ laidBy o l (changed W w v)
   unfolding laidBy byteBy changed
@@ -141,44 +173,28 @@ module _ (o : Order) (n l : ℕ) (one : OneToOne o n) (fits : l ≡ wordBytes * 
       ∙ ap (λ (x : ℕ). cond (eqb (o .word b) w) (getD v (o .symbol b) 0) x) (laidBy-at o l W b m)
       ∙ choose (eqb (o .word b) w) v (W (o .word b)) (o .symbol b))
 
-  -- each word in turn is replaced by one that is made from it
+  -- each word in turn is replaced by what is made of it
   module _ (f : ℕ → List ℕ → List ℕ) (cap : List ℕ) (len : length cap ≡ l) where
     abbrev old : ℕ → List ℕ
-    old x = wordBy o cap x
+    old w = wordBy o cap w
 
-    so-far : ℕ → ℕ → List ℕ
-    so-far k x = cond (ltb x k) (f x (old x)) (old x)
+    abbrev new : ℕ → List ℕ
+    new w = f w (old w)
 
-    early : (k : ℕ) → so-far k k ≡ old k
-    unfolding so-far
-    early k = rw (le-ltb k k (omega arith))
-
-    later : (k x : ℕ) → changed (so-far k) k (f k (old k)) x ≡ so-far (suc k) x
-    unfolding so-far changed
-    later k x = by (ℕ-discrete x k)
-      where
-        by : Dec (x ≡ k) → cond (eqb x k) (f k (old k)) (cond (ltb x k) (f x (old x)) (old x)) ≡ cond (ltb x (suc k)) (f x (old x)) (old x)
-        by (yes e) = rw (eq-eqb x k e, lt-ltb x (suc k) (omega arith), e)
-        by (no ne) = rw (ne-eqb x k ne) (same (ltb x k) refl)
-          where
-            same : (t : Bool) → ltb x k ≡ t → cond t (f x (old x)) (old x) ≡ cond (ltb x (suc k)) (f x (old x)) (old x)
-            same true e = rw (lt-ltb x (suc k) (omega (arith, ltb-true x k e)))
-            same false e = rw (le-ltb x (suc k) (omega (arith, ltb-false x k e)))
-
-    one-turn : (k : ℕ) → k < n → replaceBy o f k (laidBy o l (so-far k)) ≡ laidBy o l (so-far (suc k))
+    one-turn : (k : ℕ) → k < n → replaceBy o f k (laidBy o l (doneTo k new old)) ≡ laidBy o l (doneTo (suc k) new old)
     unfolding replaceBy
-    one-turn k m =
-        rw (word-laidBy (so-far k) k m (rw (early k) (length-wordBy o cap k)), early k)
-        (put-laidBy (so-far k) k (f k (old k)) m ∙ laidBy-ext (changed (so-far k) k (f k (old k))) (so-far (suc k)) (λ x i. later k x))
+    one-turn k h =
+        let e = done-past k k new old (omega arith) in
+        rw (word-laidBy (doneTo k new old) k h (rw e (length-wordBy o cap k)), e)
+        (put-laidBy (doneTo k new old) k (new k) h ∙ laidBy-ext (changed (doneTo k new old) k (new k)) (doneTo (suc k) new old) (λ x i. done-step k x new old))
 
-    turns : (k : ℕ) → k ≤ n → upto (replaceBy o f) cap k ≡ laidBy o l (so-far k)
-    unfolding upto so-far
-    turns zero h = sym (laidBy-ext (so-far 0) old (λ x i. rw (le-ltb x 0 (omega arith))) ∙ laidBy-words cap len)
+    turns : (k : ℕ) → k ≤ n → upto (replaceBy o f) cap k ≡ laidBy o l (doneTo k new old)
+    unfolding upto
+    turns zero h = sym (laidBy-ext (doneTo 0 new old) old (λ x i. done-past 0 x new old (omega arith)) ∙ laidBy-words cap len)
     turns (suc k) h = ap (replaceBy o f k) (turns k (omega arith)) ∙ one-turn k h
 
-    pub each-laidBy : upto (replaceBy o f) cap n ≡ laidBy o l (λ w. f w (old w))
-    unfolding so-far
-    each-laidBy = turns n (omega arith) ∙ laidBy-ext (so-far n) (λ w. f w (old w)) (λ x h. rw (lt-ltb x n h))
+    pub each-laidBy : upto (replaceBy o f) cap n ≡ laidBy o l new
+    each-laidBy = turns n (omega arith) ∙ laidBy-ext (doneTo n new old) new (λ x h. done-here n x new old h)
 
 -- ---- the line's order: the word and the symbol of a byte, and the byte of a symbol of a word
 

@@ -2,7 +2,7 @@
 use Prim.Native.Nat.{ℕ}
 use mathlib.Core.Bool.{cond}
 use mathlib.Core.List.{List, []}
-use lib.Dec.{eqb}
+use lib.Dec.{ltb, eqb}
 use lib.ListN.{getD, set}
 use Rattle.bits.specs.Bits.{tabulate}
 use Rattle.bits.specs.Loops.{upto}
@@ -20,9 +20,12 @@ putBy o cap w v = upto (putSymbolBy o w v) cap wordBytes
 unfoldable pub replaceBy : Order → (ℕ → List ℕ → List ℕ) → ℕ → List ℕ → List ℕ
 replaceBy o f w cap = putBy o cap w (f w (wordBy o cap w))
 
--- the words W with v for word w
+-- the words W with v for word w; and the words X below k with the words W from there on
 unfoldable pub changed : (ℕ → List ℕ) → ℕ → List ℕ → ℕ → List ℕ
 changed W w v x = cond (eqb x w) v (W x)
+
+unfoldable pub doneTo : ℕ → (ℕ → List ℕ) → (ℕ → List ℕ) → ℕ → List ℕ
+doneTo k X W x = cond (ltb x k) (X x) (W x)
 
 -- the same in the line's order
 abbrev pub putWord : List ℕ → ℕ → List ℕ → List ℕ
