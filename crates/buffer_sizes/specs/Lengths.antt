@@ -1,8 +1,16 @@
 -- The lengths of the buffers of a call, for any numbers at all. Assumes nothing: these are definitions.
-use Prim.Native.Nat.{ℕ, _≤_}
+use Prim.Native.Nat.{ℕ, _+_, _≤_}
 use mathlib.Core.Bool.{cond}
 use mathlib.Core.Path.{_≡_}
 use lib.Dec.{ltb}
+use Rattle.sizes.specs.Sizes.{mostFrames, parityLength, captureLength}
+
+-- the two spaces: a byte more than the longest capture has, which no other buffer is longer than, and than the longest parity
+abbrev pub largeBytes : ℕ
+largeBytes = captureLength mostFrames + 1
+
+abbrev pub smallBytes : ℕ
+smallBytes = parityLength mostFrames + 1
 
 -- r is the length that is stated, and no more than the greatest of its kind
 pub record Bytes (greatest stated r : ℕ) : Type 0 where

@@ -1,39 +1,43 @@
 // The lengths of the buffers of a call, for any numbers at all, and spaces that have room for them.
 ghost use mathlib.Core.Path.{_≡_};
 ghost use lib.ListN.{length, replicate};
-ghost use Rattle.sizes.specs.Sizes.{infoLength, parityLength, captureLength, places, groupBytes, windowBytes};
+ghost use Rattle.sizes.specs.Sizes.{places, mostFrames, infoLength, parityLength, captureLength, groupBytes, windowBytes};
 ghost use Rattle.gmp.specs.Places.{dataIn};
-ghost use Rattle.buffer_sizes.specs.Lengths.{Bytes, upTo};
+ghost use Rattle.buffer_sizes.specs.Lengths.{largeBytes, smallBytes, Bytes, upTo};
+
+const MOST: u64 = sizes::MOST_FRAMES as u64;
 
 // A capture of eight super frames has 1,412,608 bytes, and no other buffer is longer. A space has one byte more, so that what is too long is seen.
-pub const LARGE_BYTES: usize = 8 * sizes::SUPER_CAPTURE_BYTES + sizes::FILLER_BYTES + 1;
+pub const LARGE_BYTES: usize = sizes::MOST_FRAMES * sizes::SUPER_CAPTURE_BYTES
+    + sizes::FILLER_BYTES
+    + 1;
 
 pub type Large = [u8; LARGE_BYTES];
 
 // The parity of eight super frames has 81,920 bytes.
-pub const SMALL_BYTES: usize = 8 * sizes::SUPER_PARITY_BYTES + 1;
+pub const SMALL_BYTES: usize = sizes::MOST_FRAMES * sizes::SUPER_PARITY_BYTES + 1;
 
 pub type Small = [u8; SMALL_BYTES];
 
 pub fn large_space() -> Large
-    ensures { λ r. ⌜ 1412609 ≡ length r ⌝ }
-    ensures { λ r. ⌜ r ≡ replicate 1412609 0 ⌝ }
+    ensures { λ r. ⌜ largeBytes ≡ length r ⌝ }
+    ensures { λ r. ⌜ r ≡ replicate largeBytes 0 ⌝ }
 {
     [0; LARGE_BYTES]
 }
 
 pub fn small_space() -> Small
-    ensures { λ r. ⌜ 81921 ≡ length r ⌝ }
-    ensures { λ r. ⌜ r ≡ replicate 81921 0 ⌝ }
+    ensures { λ r. ⌜ smallBytes ≡ length r ⌝ }
+    ensures { λ r. ⌜ r ≡ replicate smallBytes 0 ⌝ }
 {
     [0; SMALL_BYTES]
 }
 
 // The bytes of information of n super frames; 0 where no capture has so many.
 pub fn information(n: u64) -> usize
-    ensures { λ r. ⌜ Bytes (infoLength 8) (upTo 8 infoLength n) r ⌝ }
+    ensures { λ r. ⌜ Bytes (infoLength mostFrames) (upTo mostFrames infoLength n) r ⌝ }
 {
-    if 8 < n {
+    if MOST < n {
         return 0;
     }
     sizes::SUPER_INFO_BYTES * (n as usize)
@@ -41,9 +45,9 @@ pub fn information(n: u64) -> usize
 
 // The bytes of parity of n super frames.
 pub fn parity(n: u64) -> usize
-    ensures { λ r. ⌜ Bytes (parityLength 8) (upTo 8 parityLength n) r ⌝ }
+    ensures { λ r. ⌜ Bytes (parityLength mostFrames) (upTo mostFrames parityLength n) r ⌝ }
 {
-    if 8 < n {
+    if MOST < n {
         return 0;
     }
     sizes::SUPER_PARITY_BYTES * (n as usize)
@@ -51,9 +55,9 @@ pub fn parity(n: u64) -> usize
 
 // The bytes of a capture of n super frames.
 pub fn capture(n: u64) -> usize
-    ensures { λ r. ⌜ Bytes (captureLength 8) (upTo 8 captureLength n) r ⌝ }
+    ensures { λ r. ⌜ Bytes (captureLength mostFrames) (upTo mostFrames captureLength n) r ⌝ }
 {
-    if 8 < n {
+    if MOST < n {
         return 0;
     }
     sizes::SUPER_CAPTURE_BYTES * (n as usize) + sizes::FILLER_BYTES

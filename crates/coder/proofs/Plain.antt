@@ -14,12 +14,12 @@ use Rattle.crc.specs.Crc.{crcOf}
 use Rattle.crc.specs.Steps.{entries, crcBy}
 use Rattle.crc.proofs.Changes.{crc-ext}
 use Rattle.crc.proofs.Bytewise.{bytes-crc}
-use Rattle.sizes.specs.Sizes.{infoBits, mbasFrom, parityBits, parityFrom, fecBits, elementBits, superElements, fecElements, infoBytes, infoElements}
+use Rattle.sizes.specs.Sizes.{infoBits, crcBits, mbasFrom, parityBits, parityFrom, fecBits, elementBits, superElements, fecElements, infoBytes, infoElements}
 use Rattle.line.specs.Fec.{fecBit, infoBit, parityBit, blockCrc, mbasOf}
 use Rattle.line.specs.Frames.{superOf}
 use Rattle.line.proofs.FecLaws.{fec-info, fec-crc, fec-mbas, fec-parity}
 use Rattle.line.proofs.FrameLaws.{super-pad, super-fec}
-use Rattle.coder.specs.Steps.{Agree, plainBit, tailBit}
+use Rattle.coder.specs.Steps.{guardBits, Agree, plainBit, tailBit}
 use Rattle.coder.proofs.Tails.{tail-low, tail-mid, tail-high, tail-bits}
 
 -- ---- which layer an element's bits are of
@@ -50,30 +50,30 @@ module _ (m0 : ℕ) (info par : List ℕ) (t : ℕ) where
   tail = tailBit (blockCrc info t) (mbasOf m0 t) (from (bitAt par) (parityBits * t))
 
   -- behind the CRC and the MBAS
-  after : (j : ℕ) → fecBit m0 info par t (parityFrom + j) ≡ tail (38 + j)
+  after : (j : ℕ) → fecBit m0 info par t (parityFrom + j) ≡ tail (guardBits + j)
   unfolding parityBit
   after j = fec-parity m0 info par t j ∙ sym (tail-high (blockCrc info t) (mbasOf m0 t) (from (bitAt par) (parityBits * t)) j)
 
   pub held-tail : (i : ℕ) → i < elementBits → fecBit m0 info par t (infoBits + i) ≡ tail i
   held-tail i l =
-      by-bound 32 i
+      by-bound crcBits i
       (λ h. fec-crc m0 info par t i h ∙ sym (tail-low (blockCrc info t) (mbasOf m0 t) (from (bitAt par) (parityBits * t)) i h))
-      (λ g. by-bound 38 i
-      (λ h. let p : infoBits + i ≡ mbasFrom + (i - 32) = omega arith in
-      let q : 32 + (i - 32) ≡ i = omega arith in
-      ap (fecBit m0 info par t) p ∙ fec-mbas m0 info par t (i - 32) (omega arith)
-      ∙ sym (tail-mid (blockCrc info t) (mbasOf m0 t) (from (bitAt par) (parityBits * t)) (i - 32) (omega arith)) ∙ ap tail q)
-      (λ k. let p : infoBits + i ≡ parityFrom + (i - 38) = omega arith in
-      let q : 38 + (i - 38) ≡ i = omega arith in
-      ap (fecBit m0 info par t) p ∙ after (i - 38) ∙ ap tail q))
+      (λ g. by-bound guardBits i
+      (λ h. let p : infoBits + i ≡ mbasFrom + (i - crcBits) = omega arith in
+      let q : crcBits + (i - crcBits) ≡ i = omega arith in
+      ap (fecBit m0 info par t) p ∙ fec-mbas m0 info par t (i - crcBits) (omega arith)
+      ∙ sym (tail-mid (blockCrc info t) (mbasOf m0 t) (from (bitAt par) (parityBits * t)) (i - crcBits) (omega arith)) ∙ ap tail q)
+      (λ k. let p : infoBits + i ≡ parityFrom + (i - guardBits) = omega arith in
+      let q : guardBits + (i - guardBits) ≡ i = omega arith in
+      ap (fecBit m0 info par t) p ∙ after (i - guardBits) ∙ ap tail q))
 
   pub held-parity : (m i : ℕ) → infoElements < m → fecBit m0 info par t (elementBits * m + i) ≡ from (bitAt par)
-      (parityBits * t + (elementBits * (m - infoElements) - 38)) i
+      (parityBits * t + (elementBits * (m - infoElements) - guardBits)) i
   unfolding parityBit
   held-parity m i h =
-      let p : elementBits * m + i ≡ parityFrom + (elementBits * (m - infoElements) - 38 + i) = omega arith in
-      ap (fecBit m0 info par t) p ∙ fec-parity m0 info par t (elementBits * (m - infoElements) - 38 + i)
-      ∙ ap (bitAt par) (sym (add-assoc (parityBits * t) (elementBits * (m - infoElements) - 38) i))
+      let p : elementBits * m + i ≡ parityFrom + (elementBits * (m - infoElements) - guardBits + i) = omega arith in
+      ap (fecBit m0 info par t) p ∙ fec-parity m0 info par t (elementBits * (m - infoElements) - guardBits + i)
+      ∙ ap (bitAt par) (sym (add-assoc (parityBits * t) (elementBits * (m - infoElements) - guardBits) i))
 
 -- ---- from what a callee packed
 
@@ -106,11 +106,11 @@ module _ (m0 : ℕ) (info par r : List ℕ) (e : ℕ) (no-pad : e % superElement
       (λ i l. let q : elementBits * local + i ≡ infoBits + i = omega arith in
       rw (pc, pm) (sym (plain-fec F e i no-pad l ∙ ap (F block) q ∙ held-tail m0 info par block i l)))
 
-  pub plain-parity : infoElements < local → r ≡ pack 16 (from (bitAt par) (parityBits * block + (elementBits * (local - infoElements) - 38)))
+  pub plain-parity : infoElements < local → r ≡ pack 16 (from (bitAt par) (parityBits * block + (elementBits * (local - infoElements) - guardBits)))
       → Agree (bitAt r) (plainBit F e)
   plain-parity h p =
-      agree-packed r (from (bitAt par) (parityBits * block + (elementBits * (local - infoElements) - 38))) (plainBit F e)
-      (from-bits par (parityBits * block + (elementBits * (local - infoElements) - 38))) p
+      agree-packed r (from (bitAt par) (parityBits * block + (elementBits * (local - infoElements) - guardBits))) (plainBit F e)
+      (from-bits par (parityBits * block + (elementBits * (local - infoElements) - guardBits))) p
       (λ i l. sym (plain-fec F e i no-pad l ∙ held-parity m0 info par block local i h))
 
 -- ---- the CRC of a block's part of the information

@@ -9,7 +9,7 @@ use Rattle.bits.specs.Bits.{digit, pack}
 use Rattle.matrix.specs.Steps.{tailTable}
 use Rattle.lent.specs.Steps.{byteTable}
 use Rattle.scrambler.specs.Scrambler.{o}
-use Rattle.sizes.specs.Sizes.{crcBits, fecBlocks, elementBits, superElements, superBytes, infoLength, parityLength, captureLength}
+use Rattle.sizes.specs.Sizes.{crcBits, mbasBits, fecBlocks, elementBits, superElements, superBytes, infoLength, parityLength, captureLength}
 use Rattle.line.specs.Fec.{blockCrc}
 use Rattle.line.specs.Frames.{superOf}
 
@@ -21,9 +21,13 @@ Agree f g = (i : ℕ) → i < elementBits → f i ≡ g i
 unfoldable pub plainBit : (ℕ → ℕ → ℕ) → ℕ → ℕ → ℕ
 plainBit F e i = superOf F (e / superElements) (elementBits * (e % superElements) + i)
 
+-- CRC and MBAS stand between the information and the parity
+abbrev pub guardBits : ℕ
+guardBits = crcBits + mbasBits
+
 -- the element that holds a block's CRC and MBAS: 32 bits, six bits, then parity
 unfoldable pub tailBit : ℕ → ℕ → (ℕ → ℕ) → ℕ → ℕ
-tailBit crc mbas parity i = cond (ltb i 32) (digit 32 crc i) (cond (ltb i 38) (digit 6 mbas (i - 32)) (parity (i - 38)))
+tailBit crc mbas parity i = cond (ltb i crcBits) (digit crcBits crc i) (cond (ltb i guardBits) (digit mbasBits mbas (i - crcBits)) (parity (i - guardBits)))
 
 -- entry k of a list of numbers
 abbrev pub entry : List ℕ → ℕ → ℕ

@@ -1,6 +1,5 @@
 -- Each public contract has one answer: two runs that meet it at one entry return the same. `Post` is the
 -- contract's own `ensures`, so a weaker contract would not pass here. Assumes nothing.
-use Prim.Native.Nat.{ℕ}
 use mathlib.Core.Path.{_≡_, refl, ap}
 use native.Mathlib.Omega.{arith}
 use Rattle.bits.proofs.Common.{only}
@@ -21,15 +20,11 @@ same-kind Data Data e = refl
 same-kind Stuff Data e = absurd (omega arith)
 same-kind Data Stuff e = absurd (omega arith)
 
-same-run : (n m l k : ℕ) (a b : Kind) → n ≡ m → a ≡ b → l ≡ k
-    → _≡_ {A = Run} (record { number = n; kind = a; last = l }) (record { number = m; kind = b; last = k })
-same-run n m l k a b p q r = rw (p, q, r)
-
 -- so what is told of a run tells the run
 told-once : (x y : Run) → told x ≡ told y → x ≡ y
 told-once x y e =
-    same-run (x .number) (y .number) (x .last) (y .last) (x .kind) (y .kind) (ap (λ (z : Told). z .number) e)
-    (same-kind (x .kind) (y .kind) (ap (λ (z : Told). z .kind) e)) (ap (λ (z : Told). z .last) e)
+    let k = same-kind (x .kind) (y .kind) (ap (λ (z : Told). z .kind) e) in
+    rw (ap (λ (z : Told). z .number) e, k, ap (λ (z : Told). z .last) e)
 
 pub one-run : (κs : _) (a : _) (x y : _) (s t : _) → run.Post κs a x s → run.Post κs a y t → x ≡ y
 one-run κs a x y s t p q = told-once x y (only p q)

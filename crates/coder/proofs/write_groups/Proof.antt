@@ -60,16 +60,14 @@ loop-less c = omega arith
 
 loop-again : tie.Need-loop-again Inv-loop μ-loop
 loop-again c =
-    let at-put-group = c .before .before in
-    let at-interleave = at-put-group .before in
-    let a = at-interleave .before .before .before .before .before .before .before .before .before .args in
-    let g = at-interleave .before .before .before .before .loop .g in
+    let a = c .before .before .before .before .before .before .before .before .before .before .before .before .args in
+    let g = c .before .before .before .before .before .before .before .loop .g in
     let W = wordsOf (a .n) (fecBit (a .m0) (now (a .info)) (now (a .parity))) in
     let k = groupSize * g + groupSize - groupSize * g in
-    let l = at-interleave .before .before in
+    let l = c .before .before .before .before .before in
     filled-block k (groupSize * (g + 1)) (l .before .before .loop .inv) (omega arith) (omega arith)
-    (group-left W g k (l .group .result) (at-interleave .interleave .result) (at-put-group .put-group .last .0) (omega arith)
-    (l .group .ensures) (at-interleave .interleave .ensures) (at-put-group .put-group .ensures))
+    (group-left W g k (l .group .result) (c .before .before .before .interleave .result) (c .before .before .put-group .last .0) (omega arith)
+    (l .group .ensures) (c .before .before .before .interleave .ensures) (c .before .before .put-group .ensures))
 
 same-length : tie.Need-same-length Inv-loop μ-loop
 same-length c = omega arith

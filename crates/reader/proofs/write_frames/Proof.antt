@@ -70,17 +70,14 @@ loop-less c = search needs
 
 loop-again : tie.Need-loop-again Inv-loop μ-loop
 loop-again c =
-    let at-write-blocks = c .before .before .before .before in
-    let at-frame = at-write-blocks .before .before .before .before .before .before in
-    let at-loop = at-frame .before .before .before in
-    let entry = at-loop .before .before .before .before .before .before in
-    let h = at-loop .loop in
-    let a = entry .args in
+    let s = c .before .before .before .before .before .before .before .before .before .before .before .before .before in
+    let h = s .loop in
+    let a = s .before .before .before .before .before .before .args in
     let cap = now (a .capture) in
     let i = superInfoBytes * h .f in
     let p = superParityBytes * h .f in
-    let e = at-frame .frame .ensures in
-    let w = at-write-blocks .write-blocks .ensures in (
+    let e = c .before .before .before .before .before .before .before .before .before .before .frame .ensures in
+    let w = c .before .before .before .before .write-blocks .ensures in (
       filled-part (i + superInfoBytes - i) (superInfoBytes * (h .f + 1)) superInfoBytes _ (h .inv .0) (omega arith) (omega arith) (omega arith) (w .0)
           (λ j l. info-whole cap _ (h .f) j e (omega arith)),
       filled-part (p + superParityBytes - p) (superParityBytes * (h .f + 1)) superParityBytes _ (h .inv .1) (omega arith) (omega arith) (omega arith) (w .1)
