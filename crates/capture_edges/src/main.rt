@@ -3,7 +3,11 @@
 // as well: number 1 comes first. Digests before and after a call show that a refusal changed nothing.
 ghost use mathlib.Core.Path.{_≡_};
 ghost use lib.ListN.{length};
+ghost use Rattle.buffer_sizes.specs.Lengths.{largeBytes};
 use answer::Answer;
+
+// The client blocks of a super frame.
+const BLOCKS: u64 = sizes::SUPER_CLIENT_BLOCKS as u64;
 
 fn say_code(n: u64, r: Answer, before: u64, after: u64) {
     said::frames(n);
@@ -44,7 +48,7 @@ fn code_into(n: u64, info: &[u8], parity: &[u8], capture: &mut [u8]) {
 }
 
 fn code_from(n: u64, m: u64, room: &[u8], capture: &mut [u8])
-    requires { ⌜ 1412609 ≡ length (now room) ⌝ }
+    requires { ⌜ largeBytes ≡ length (now room) ⌝ }
 {
     let a = buffer_sizes::information(m);
     let b = a + buffer_sizes::parity(m);
@@ -83,9 +87,9 @@ fn read(n: u64, m: u64, capture: &[u8]) {
 
 // The seven bits behind the 257 are zero.
 fn edit(n: u64, block: u64, capture: &mut [u8]) {
-    let bits = [128u8; 33];
-    let parity = [90u8; 2048];
-    let mut list = [7u64; 145];
+    let bits = [128u8; sizes::BLOCK_BYTES];
+    let parity = [90u8; sizes::PARITY_BYTES];
+    let mut list = [7u64; sizes::LIST_LENGTH];
     let before = made::digest(capture);
     let list_before = made::digest_numbers(&list);
     let r = capture::edit(n, block, &bits, &parity, capture, &mut list);
@@ -109,8 +113,12 @@ fn flipped(n: u64, m: u64, capture: &mut [u8]) {
 
 // The last client block, and the first past it; a block far past the end for none.
 fn edited(n: u64, capture: &mut [u8]) {
-    edit(n, (4760 * (n % 10) + 47599) % 47600, capture);
-    edit(n, 4760 * (n % 10), capture);
+    edit(
+        n,
+        (BLOCKS * (n % 10) + (10 * BLOCKS - 1)) % (10 * BLOCKS),
+        capture,
+    );
+    edit(n, BLOCKS * (n % 10), capture);
 }
 
 fn case(n: u64, m: u64, capture: &mut [u8]) {

@@ -2,6 +2,7 @@
 // that show the capture unchanged.
 ghost use mathlib.Core.Path.{_≡_};
 ghost use lib.ListN.{length};
+ghost use Rattle.buffer_sizes.specs.Lengths.{largeBytes};
 use answer::Answer;
 
 // The first number of the FEC blocks of n super frames.
@@ -28,12 +29,12 @@ fn code_into(n: u64, m0: u64, info: &[u8], parity: &[u8], capture: &mut [u8]) {
 }
 
 fn code_from(n: u64, m0: u64, info: usize, parity: usize, capture: usize, room: &[u8])
-    requires { ⌜ 1412609 ≡ length (now room) ⌝ }
+    requires { ⌜ largeBytes ≡ length (now room) ⌝ }
 {
     let mut space = buffer_sizes::large_space();
     let a = info % 1300000;
     let b = a + parity % 100000;
-    let k = capture % 1412610;
+    let k = capture % (buffer_sizes::LARGE_BYTES + 1);
     code_into(n, m0, &room[0..a], &room[a..b], &mut space[0..k]);
 }
 

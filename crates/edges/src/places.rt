@@ -2,6 +2,9 @@
 // and after a call show that a refusal changed nothing.
 use answer::Answer;
 
+// The bytes of four places.
+const FOUR_PLACES: usize = 2 * sizes::PAIR_BYTES;
+
 fn name(c: u64, f: u64, n: u64) {
     said::number(b"C ", c);
     said::number(b" f ", f);
@@ -55,16 +58,16 @@ fn there_and_back(c: u64, f: u64, n: u64, groups: &mut [u8], window: &mut [u8], 
 }
 
 fn two_places(c: u64, f: u64) {
-    let mut groups = [0u8; 257];
-    let mut window = [90u8; 257];
-    let mut back = [60u8; 257];
+    let mut groups = [0u8; sizes::PAIR_BYTES];
+    let mut window = [90u8; sizes::PAIR_BYTES];
+    let mut back = [60u8; sizes::PAIR_BYTES];
     there_and_back(c, f, 2, &mut groups, &mut window, &mut back);
 }
 
 fn four_places(c: u64, f: u64) {
-    let mut groups = [0u8; 514];
-    let mut window = [90u8; 514];
-    let mut back = [60u8; 514];
+    let mut groups = [0u8; FOUR_PLACES];
+    let mut window = [90u8; FOUR_PLACES];
+    let mut back = [60u8; FOUR_PLACES];
     there_and_back(c, f, 4, &mut groups, &mut window, &mut back);
 }
 

@@ -9,7 +9,7 @@ fn crc_of(name: &[u8], s: &[u8]) {
 }
 
 fn crc_of_zeros() {
-    let zeros = [0u8; 30583];
+    let zeros = [0u8; sizes::INFO_BYTES];
     crc_of(b"CRC of 30583 zero bytes: ", &zeros);
 }
 
@@ -19,7 +19,7 @@ fn wide(x: u8) -> u64 {
 
 fn say_word(name: &[u8], w: [u8; 16]) {
     said::text(name);
-    for k in 0..16 {
+    for k in 0..sizes::WORD_BYTES {
         io::print_hex(STDOUT_FILENO, wide(w[k]), 2);
     }
     said::text(b"\n");
@@ -31,7 +31,7 @@ fn sequence() {
     say_word(b"scrambler from bit 0 on: ", copies::word_from(&s, 0));
     say_word(
         b"scrambled pad from bit 0 on: ",
-        copies::word_from(&s, 1305430),
+        copies::word_from(&s, sizes::PAD_FROM),
     );
 }
 

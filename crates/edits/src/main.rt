@@ -3,6 +3,7 @@
 // starts from a capture of its own, so that most functions take numbers alone and little is known of any buffer: that keeps the check short.
 ghost use mathlib.Core.Path.{_≡_};
 ghost use lib.ListN.{length};
+ghost use Rattle.buffer_sizes.specs.Lengths.{largeBytes};
 use answer::Answer;
 use made::Generator;
 
@@ -10,7 +11,15 @@ use made::Generator;
 const NO_BLOCK: u64 = 99999;
 
 // A bit past the end of every word.
-const NO_BIT: usize = 128;
+const NO_BIT: usize = sizes::WORD_BITS;
+
+// A list that is too long by one.
+const LONG_LIST: usize = sizes::LIST_LENGTH + 1;
+
+// The capture of one super frame, in bytes, and its words.
+const ONE_BYTES: usize = sizes::SUPER_CAPTURE_BYTES + sizes::FILLER_BYTES;
+
+const ONE_WORDS: usize = sizes::SUPER_ELEMENTS + sizes::LONGEST_WAIT;
 
 // ---- what is made
 
@@ -24,23 +33,23 @@ fn fill(seed: u64, out: &mut [u8]) {
 }
 
 // The client block that an edit of a block puts in. The spare bits are the low seven of byte 32, which stand behind the 257.
-fn client_of(block: u64, spare: u8) -> [u8; 33] {
-    let mut bits = [0u8; 33];
+fn client_of(block: u64, spare: u8) -> [u8; sizes::BLOCK_BYTES] {
+    let mut bits = [0u8; sizes::BLOCK_BYTES];
     fill(300 + block % 100000, &mut bits);
     bits[32] = bits[32] & 128 | spare;
     bits
 }
 
 // The parity that an edit of a block puts in.
-fn parity_of(block: u64) -> [u8; 2048] {
-    let mut parity = [0u8; 2048];
+fn parity_of(block: u64) -> [u8; sizes::PARITY_BYTES] {
+    let mut parity = [0u8; sizes::PARITY_BYTES];
     fill(301 + block % 100000, &mut parity);
     parity
 }
 
 // What the list is full of before an edit.
-fn list_of() -> [u64; 146] {
-    let mut list = [0u64; 146];
+fn list_of() -> [u64; LONG_LIST] {
+    let mut list = [0u64; LONG_LIST];
     made::fill_numbers(made::start(996), &mut list);
     list
 }
@@ -59,7 +68,7 @@ fn put_bit(s: &mut [u8], i: usize, b: u8) {
 
 // Puts the first bits of `new` to the bytes s, from bit `from` on.
 fn put_bits(s: &mut [u8], from: usize, new: &[u8], count: usize) {
-    for i in 0..count % 16385 {
+    for i in 0..count % (sizes::PARITY_BITS + 1) {
         put_bit(s, from % 100000000 + i, bits::bit_at(new, i));
     }
 }
@@ -69,18 +78,23 @@ fn put_bits(s: &mut [u8], from: usize, new: &[u8], count: usize) {
 fn fill_input(n: u64, block: u64, room: &mut [u8]) {
     let b = (block % 100000) as usize;
     fill(100 + n % 9, room);
-    put_bits(room, 257 * b, &client_of(block, 0), 257);
     put_bits(
         room,
-        8 * buffer_sizes::information(n) + 16384 * (b / 952),
+        sizes::BLOCK_BITS * b,
+        &client_of(block, 0),
+        sizes::BLOCK_BITS,
+    );
+    put_bits(
+        room,
+        8 * buffer_sizes::information(n) + sizes::PARITY_BITS * (b / sizes::CLIENT_BLOCKS),
         &parity_of(block),
-        16384,
+        sizes::PARITY_BITS,
     );
 }
 
 // Codes what fills a room.
 fn code_from(n: u64, room: &[u8], capture: &mut [u8])
-    requires { ⌜ 1412609 ≡ length (now room) ⌝ }
+    requires { ⌜ largeBytes ≡ length (now room) ⌝ }
 {
     let a = buffer_sizes::information(n);
     let b = a + buffer_sizes::parity(n);
@@ -129,15 +143,23 @@ fn edit_lengths(
     let bits = client_of(block, spare);
     let new = parity_of(block);
     let mut words = list_of();
-    let i = client % 34;
-    let j = parity % 2049;
-    let k = list % 147;
+    let i = client % (sizes::BLOCK_BYTES + 1);
+    let j = parity % (sizes::PARITY_BYTES + 1);
+    let k = list % (LONG_LIST + 1);
     edit_said(n, block, &bits[0..i], &new[0..j], capture, &mut words[0..k])
 }
 
 // The same with buffers of the stated lengths, in the capture of one super frame.
 fn edit(block: u64, spare: u8, capture: &mut [u8]) -> bool {
-    edit_lengths(1, block, spare, 33, 2048, 145, capture)
+    edit_lengths(
+        1,
+        block,
+        spare,
+        sizes::BLOCK_BYTES,
+        sizes::PARITY_BYTES,
+        sizes::LIST_LENGTH,
+        capture,
+    )
 }
 
 fn name_block(n: u64, block: u64) {
@@ -169,7 +191,7 @@ fn is_afresh(n: u64, block: u64, capture: &[u8]) -> bool {
 }
 
 fn fills(n: u64, room: &[u8], info: &[u8], parity: &[u8]) -> bool
-    requires { ⌜ 1412609 ≡ length (now room) ⌝ }
+    requires { ⌜ largeBytes ≡ length (now room) ⌝ }
 {
     let a = buffer_sizes::information(n);
     let b = a + buffer_sizes::parity(n);
@@ -241,7 +263,15 @@ fn edited(frames: u64, n: u64, block: u64, spare: u8, client: usize, parity: usi
 // All is as stated, but for the numbers.
 fn numbered(frames: u64, n: u64, block: u64) {
     name_block(n, block);
-    edited(frames, n, block, 0, 33, 2048, 145);
+    edited(
+        frames,
+        n,
+        block,
+        0,
+        sizes::BLOCK_BYTES,
+        sizes::PARITY_BYTES,
+        sizes::LIST_LENGTH,
+    );
 }
 
 fn grant(n: u64, block: u64) {
@@ -260,7 +290,7 @@ fn past_end(n: u64) {
     let mut capture = buffer_sizes::large_space();
     let k = buffer_sizes::capture(n);
     say_coded(n, &mut capture[0..k]);
-    numbered(n, n, 4760 * (n % 9));
+    numbered(n, n, sizes::SUPER_CLIENT_BLOCKS as u64 * (n % 9));
 }
 
 // Refused for its lengths or its spare bits: an edit of block 6 in the capture of one super frame.
@@ -299,7 +329,7 @@ fn damaged_in(w: usize, i: usize, x: usize, j: usize, spare: u8, capture: &mut [
 // Bit i of word w is wrong and bit j of word x. A granted edit keeps them so: turned back, the capture is that of the edit without damage.
 fn damaged(w: usize, i: usize, x: usize, j: usize, spare: u8) {
     let mut capture = buffer_sizes::large_space();
-    damaged_in(w, i, x, j, spare, &mut capture[0..183296]);
+    damaged_in(w, i, x, j, spare, &mut capture[0..ONE_BYTES]);
 }
 
 // Two bits of word w are wrong, which is not listed.
@@ -358,7 +388,7 @@ fn put_word(g: Generator, w: usize, capture: &mut [u8]) -> Generator {
 // Every slot, filler too.
 fn fill_words(seed: u64, capture: &mut [u8]) {
     let mut g = made::start(seed);
-    for w in 0..11456 {
+    for w in 0..ONE_WORDS {
         g = put_word(g, w, capture);
     }
 }
@@ -389,14 +419,17 @@ fn edit_twice(block: u64, capture: &mut [u8]) {
 // Valid words that no input was coded to. The same edit once more changes nothing.
 fn never_coded(block: u64) {
     let mut capture = buffer_sizes::large_space();
-    edit_twice(block, &mut capture[0..183296]);
+    edit_twice(block, &mut capture[0..ONE_BYTES]);
 }
 
 // ---- all of them
 
 fn list_before() {
     let list = list_of();
-    said::hex(b"list before: ", made::digest_numbers(&list[0..145]));
+    said::hex(
+        b"list before: ",
+        made::digest_numbers(&list[0..sizes::LIST_LENGTH]),
+    );
     said::end_line();
 }
 

@@ -8,7 +8,7 @@ ghost use Prim.Native.Nat.{_<_};
 // The element whose first n bytes are x and whose others are y.
 fn element(x: u8, y: u8, n: usize) -> [u8; 16] {
     let mut e = [y; 16];
-    for k in 0..16 {
+    for k in 0..sizes::WORD_BYTES {
         if k < n {
             e[k] = x;
         }
@@ -34,7 +34,7 @@ fn wide(x: u8) -> u64 {
 }
 
 fn print_word(w: [u8; 16]) {
-    for k in 0..16 {
+    for k in 0..sizes::WORD_BYTES {
         io::print_hex(STDOUT_FILENO, wide(w[k]), 2);
     }
     io::write_all(STDOUT_FILENO, b"\n");
@@ -69,7 +69,7 @@ fn print_row(n: u8) {
 // The word with bit i turned.
 fn flip(w: [u8; 16], i: usize) -> [u8; 16] {
     let mut v = w;
-    let k = i % 128;
+    let k = i % sizes::WORD_BITS;
     v[k / 8] = v[k / 8] ^ (128 >> (k % 8));
     v
 }
@@ -115,7 +115,7 @@ fn repaired(t: &[u16; 4096], positions: &[u8; 512], w: [u8; 16]) -> Repaired {
 // How many of the 128 single flips are put right.
 fn single_flips(t: &[u16; 4096], positions: &[u8; 512], w: [u8; 16]) -> u64 {
     let mut n: u64 = 0;
-    for i in 0..128 {
+    for i in 0..sizes::WORD_BITS {
         n = n + put_right(repaired(t, positions, flip(w, i)), w, i);
     }
     n
@@ -125,8 +125,8 @@ fn single_flips(t: &[u16; 4096], positions: &[u8; 512], w: [u8; 16]) -> u64 {
 fn pair_beyond(t: &[u16; 4096], positions: &[u8; 512], w: [u8; 16], p: usize) -> u64
     ensures { λ r. ⌜ r < 2 ⌝ }
 {
-    if p / 128 < p % 128 {
-        let v = flip(flip(w, p / 128), p % 128);
+    if p / sizes::WORD_BITS < p % sizes::WORD_BITS {
+        let v = flip(flip(w, p / sizes::WORD_BITS), p % sizes::WORD_BITS);
         left_alone(repaired(t, positions, v), v)
     } else {
         0
@@ -136,7 +136,7 @@ fn pair_beyond(t: &[u16; 4096], positions: &[u8; 512], w: [u8; 16], p: usize) ->
 // How many of the 8,128 double flips are beyond repair.
 fn double_flips(t: &[u16; 4096], positions: &[u8; 512], w: [u8; 16]) -> u64 {
     let mut n: u64 = 0;
-    for p in 0..16384 {
+    for p in 0..sizes::WORD_BITS * sizes::WORD_BITS {
         n = n + pair_beyond(t, positions, w, p);
     }
     n

@@ -32,7 +32,7 @@ fn parts(n: u64, last: u64) {
 // A request that is refused, with an information of the length given.
 fn named(name: &[u8], n: u64, t: u64, length: usize) {
     let mut info = buffer_sizes::large_space();
-    let a = length % 1412610;
+    let a = length % (buffer_sizes::LARGE_BYTES + 1);
     made::fill(made::start(101), &mut info);
     said::text(name);
     part(n, t, &info[0..a]);

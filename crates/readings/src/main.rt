@@ -3,7 +3,16 @@
 // capture of its own, so that most functions take numbers alone and little is known of any buffer: that keeps the check short.
 ghost use mathlib.Core.Path.{_≡_};
 ghost use lib.ListN.{length};
+ghost use Rattle.buffer_sizes.specs.Lengths.{largeBytes};
 use answer::Answer;
+
+// A length is taken below these: a space, and no more, has room for it.
+const LARGE_LENGTHS: usize = buffer_sizes::LARGE_BYTES + 1;
+
+const SMALL_LENGTHS: usize = buffer_sizes::SMALL_BYTES + 1;
+
+// The FEC blocks of eight super frames.
+const MOST_BLOCKS: usize = sizes::MOST_FRAMES * sizes::FEC_BLOCKS;
 
 // The word that has no bit.
 const NONE: [u8; 16] = [0; 16];
@@ -21,7 +30,7 @@ fn fill(seed: u64, out: &mut [u8]) {
 
 // Codes what fills a room: the information of n super frames and behind it their parity.
 fn code_from(n: u64, room: &[u8], capture: &mut [u8])
-    requires { ⌜ 1412609 ≡ length (now room) ⌝ }
+    requires { ⌜ largeBytes ≡ length (now room) ⌝ }
 {
     let a = buffer_sizes::information(n);
     let b = a + buffer_sizes::parity(n);
@@ -36,7 +45,7 @@ fn code(n: u64, capture: &mut [u8]) {
 
 // The digest of the bytes that a seed makes, from one place to another.
 fn digest_of(seed: u64, from: usize, to: usize) -> u64 {
-    let b = to % 1412610;
+    let b = to % LARGE_LENGTHS;
     if b < from {
         return 0;
     }
@@ -73,8 +82,8 @@ fn read_in(n: u64, m0: u64, capture: &[u8], info: &mut [u8], parity: &mut [u8]) 
 fn read(n: u64, m0: u64, capture: &[u8], info: usize, parity: usize) {
     let mut i = buffer_sizes::large_space();
     let mut p = buffer_sizes::small_space();
-    let a = info % 1412610;
-    let b = parity % 81922;
+    let a = info % LARGE_LENGTHS;
+    let b = parity % SMALL_LENGTHS;
     read_in(n, m0, capture, &mut i[0..a], &mut p[0..b]);
 }
 
@@ -105,7 +114,7 @@ fn two_bits() -> [u8; 16] {
 
 // The code word of the element that has only the bit of its super frame's bit p. A word that passes its checks still does with it added.
 fn sound(p: usize) -> [u8; 16] {
-    hamming::encode(damage::bit(p % 119))
+    hamming::encode(damage::bit(p % sizes::ELEMENT_BITS))
 }
 
 // The word that holds bit p of super frame f.
@@ -116,7 +125,7 @@ fn word_of(f: usize, p: usize) -> usize {
 
 // Where bit i of FEC block t stands in its super frame.
 fn place_of(t: usize, i: usize) -> usize {
-    261086 * (t % 5) + i % 261086
+    sizes::FEC_BITS * (t % sizes::FEC_BLOCKS) + i % sizes::FEC_BITS
 }
 
 fn last_word(n: u64) -> usize {
@@ -124,7 +133,7 @@ fn last_word(n: u64) -> usize {
 }
 
 fn last_block(n: u64) -> usize {
-    (5 * (n % 9) + 39) as usize % 40
+    ((sizes::FEC_BLOCKS as u64 * (n % 9)) as usize + (MOST_BLOCKS - 1)) % MOST_BLOCKS
 }
 
 fn damaged_in(n: u64, m0: u64, w: usize, v: [u8; 16], x: usize, u: [u8; 16], capture: &mut [u8]) {
@@ -211,7 +220,7 @@ fn name_bit(n: u64, i: usize, of: &[u8], place: usize) {
 // Numbers 6 and 7: bit i of FEC block t.
 fn block(n: u64, t: usize, i: usize) {
     name_bit(n, i, b" of block ", t);
-    turned(n, t / 5, place_of(t, i));
+    turned(n, t / sizes::FEC_BLOCKS, place_of(t, i));
 }
 
 fn blocks(n: u64) {
@@ -229,7 +238,7 @@ fn pad(n: u64, f: usize, p: usize) {
 
 fn pads(n: u64) {
     pad(n, 0, 1305430);
-    pad(n, last_block(n) / 5, 1306143);
+    pad(n, last_block(n) / sizes::FEC_BLOCKS, 1306143);
 }
 
 // ---- two numbers apply: the smaller one wins, wherever it stands
@@ -237,7 +246,7 @@ fn pads(n: u64) {
 fn mbas_and_crc(n: u64) {
     name(n, b" last MBAS and first CRC wrong");
     let t = last_block(n);
-    both_turned(n, t / 5, place_of(t, 244696), 0, 0);
+    both_turned(n, t / sizes::FEC_BLOCKS, place_of(t, 244696), 0, 0);
 }
 
 fn word_and_filler(n: u64) {
@@ -248,14 +257,14 @@ fn word_and_filler(n: u64) {
 fn crc_and_pad(n: u64) {
     name(n, b" last CRC and first pad wrong");
     let t = last_block(n);
-    both_turned(n, t / 5, place_of(t, 244695), 0, 1305430);
+    both_turned(n, t / sizes::FEC_BLOCKS, place_of(t, 244695), 0, 1305430);
 }
 
 // One number applies twice: the smaller place wins.
 fn crc_twice(n: u64) {
     name(n, b" CRC of block 3 and of the last wrong");
     let t = last_block(n);
-    both_turned(n, t / 5, place_of(t, 0), 0, place_of(3, 0));
+    both_turned(n, t / sizes::FEC_BLOCKS, place_of(t, 0), 0, place_of(3, 0));
 }
 
 // A filler word is looked at after repair.
@@ -269,7 +278,7 @@ fn repaired_filler(n: u64) {
 fn parity_turned(n: u64) {
     name(n, b" last parity bit turned");
     let t = last_block(n);
-    turned(n, t / 5, place_of(t, 261085));
+    turned(n, t / sizes::FEC_BLOCKS, place_of(t, 261085));
 }
 
 // ---- all of n super frames
@@ -307,7 +316,7 @@ fn readings(n: u64) {
 
 fn read_zeros(n: u64, m0: u64, capture: usize, info: usize, parity: usize) {
     let zeros = buffer_sizes::large_space();
-    let k = capture % 1412610;
+    let k = capture % LARGE_LENGTHS;
     read(n, m0, &zeros[0..k], info, parity);
 }
 

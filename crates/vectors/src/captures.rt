@@ -23,19 +23,19 @@ fn say_edit(block: u64, r: Answer, capture: u64, list: u64) {
 }
 
 fn edit_by(n: u64, block: u64, bits: &[u8], parity: &[u8], capture: &mut [u8]) {
-    let mut list = [7u64; 145];
+    let mut list = [7u64; sizes::LIST_LENGTH];
     let r = capture::edit(n, block, bits, parity, capture, &mut list);
     say_edit(block, r, made::digest(capture), made::digest_numbers(&list));
 }
 
 // A client block, whose seven bits behind the 257 are zero, and the parity of its FEC block.
 fn edit(n: u64, g: Generator, capture: &mut [u8]) -> Generator {
-    let mut bits = [0u8; 33];
-    let mut parity = [0u8; 2048];
+    let mut bits = [0u8; sizes::BLOCK_BYTES];
+    let mut parity = [0u8; sizes::PARITY_BYTES];
     let first = made::step(g);
     let h = made::fill(made::fill(first, &mut bits), &mut parity);
     bits[32] = bits[32] & 128;
-    let block = made::below(first, 4760 * (n % 9));
+    let block = made::below(first, sizes::SUPER_CLIENT_BLOCKS as u64 * (n % 9));
     edit_by(n, block, &bits, &parity, capture);
     h
 }
@@ -45,14 +45,18 @@ fn turn_some(g: Generator, capture: &mut [u8], w: usize) -> Generator {
     let first = made::step(g);
     let second = made::step(first);
     if made::below(first, 3) == 0 {
-        damage::turn(capture, w, damage::bit(made::below(second, 128) as usize));
+        damage::turn(
+            capture,
+            w,
+            damage::bit(made::below(second, sizes::WORD_BITS as u64) as usize),
+        );
     }
     second
 }
 
 fn turn_all(g: Generator, capture: &mut [u8]) -> Generator {
     let mut h = g;
-    for w in 0..capture.len() / 16 {
+    for w in 0..capture.len() / sizes::WORD_BYTES {
         h = turn_some(h, capture, w);
     }
     h

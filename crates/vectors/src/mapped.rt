@@ -1,6 +1,9 @@
 // Windows from many seeds, mapped and unmapped. The generator gives C, f, n and the groups.
 use made::Generator;
 
+// A byte more than a window of 80 places has.
+const SPACE: usize = 80 / 2 * sizes::PAIR_BYTES + 1;
+
 // Where there are groups, their last four bits become zero: the spare ones if d is odd.
 fn clear_last(groups: &mut [u8]) {
     let n = groups.len();
@@ -45,11 +48,11 @@ fn window(
 
 // At most 80 places are mapped.
 fn sized(c: u64, f: u64, n: u64, g: Generator) {
-    let d = buffer_sizes::groups(c, f, n) % 10282;
-    let k = buffer_sizes::window(n) % 10282;
-    let mut groups = [0u8; 10281];
-    let mut space = [90u8; 10281];
-    let mut back = [60u8; 10281];
+    let d = buffer_sizes::groups(c, f, n) % (SPACE + 1);
+    let k = buffer_sizes::window(n) % (SPACE + 1);
+    let mut groups = [0u8; SPACE];
+    let mut space = [90u8; SPACE];
+    let mut back = [60u8; SPACE];
     window(
         c,
         f,
@@ -65,7 +68,7 @@ fn windows(seed: u64) {
     let g1 = made::step(made::start(seed));
     let g2 = made::step(g1);
     let g3 = made::step(g2);
-    let c = made::below(g1, 10221);
+    let c = made::below(g1, sizes::PLACES + 1);
     let f = 2 * (made::below(g2, 5071) % 5071) + 1;
     let n = 2 * (made::below(g3, 40) % 40) + 2;
     say_numbers(seed, c, f, n);

@@ -51,7 +51,7 @@ fn table_7_row(c: u64) {
 
 fn table_7() {
     for i in 0..7u64 {
-        table_7_row(10220 - i);
+        table_7_row(sizes::PLACES - i);
     }
 }
 

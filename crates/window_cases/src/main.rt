@@ -5,10 +5,15 @@ mod cases;
 use cases::CASES;
 
 // The groups of places that are all data, and a window of all places.
-type Space = [u8; 1313270];
+const SPACE: usize = sizes::PAIR_BYTES * (sizes::PLACES as usize) / 2;
+
+type Space = [u8; SPACE];
+
+// A length is taken below this: a space, and no more, has room for it.
+const LENGTHS: u64 = SPACE as u64 + 1;
 
 fn space() -> Space {
-    [0; 1313270]
+    [0; SPACE]
 }
 
 // Bytes in which nothing is regular, so that what is written shows, and what is not.
@@ -54,16 +59,16 @@ fn name(case: u64, c: u64, f: u64, n: u64, groups: u64, window: u64, low: u64) {
 }
 
 fn map_case(case: u64, c: u64, f: u64, n: u64, low: u8, groups: u64, window: u64) {
-    let i = (groups % 1313271) as usize;
-    let k = (window % 1313271) as usize;
+    let i = (groups % LENGTHS) as usize;
+    let k = (window % LENGTHS) as usize;
     let mut a = space();
     let mut b = space();
     map(case, c, f, n, low, &mut a[0..i], &mut b[0..k]);
 }
 
 fn unmap_case(case: u64, c: u64, f: u64, n: u64, groups: u64, window: u64) {
-    let i = (groups % 1313271) as usize;
-    let k = (window % 1313271) as usize;
+    let i = (groups % LENGTHS) as usize;
+    let k = (window % LENGTHS) as usize;
     let mut a = space();
     let mut b = space();
     unmap(case, c, f, n, &mut a[0..i], &mut b[0..k]);
