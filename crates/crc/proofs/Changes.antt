@@ -7,6 +7,7 @@ use native.Mathlib.Omega.{arith}
 use lib.Bits.{bitXor, xor-lt}
 use lib.Dec.{ltb}
 use lib.Pow.{ones-lt}
+use Rattle.sizes.specs.Sizes.{crcBits}
 use Rattle.bits.specs.Bits.{added, Bits}
 use Rattle.bits.proofs.Xor.{xor-assoc}
 use Rattle.crc.specs.Remainder.{polynomial, remFrom}
@@ -20,6 +21,10 @@ use Rattle.crc.proofs.Linear as any
 pub poly-is : poly ≡ 0x04C11DB7
 unfolding poly polynomial
 poly-is = refl
+
+-- the width, which the list of powers begins with, is the size of the CRC field
+pub width-is : width ≡ crcBits
+width-is = refl
 
 pub poly-lt : poly < 2 ^ width
 poly-lt = rw poly-is (omega arith)
