@@ -7,6 +7,9 @@ ghost use Rattle.buffer_sizes.specs.Lengths.{largeBytes};
 use answer::Answer;
 use made::Generator;
 
+// So many bits are put at the most, and none where it is one more.
+const MOST_BITS: usize = sizes::PARITY_BITS + 1;
+
 // A block past the end of every capture.
 const NO_BLOCK: u64 = 99999;
 
@@ -68,7 +71,7 @@ fn put_bit(s: &mut [u8], i: usize, b: u8) {
 
 // Puts the first bits of `new` to the bytes s, from bit `from` on.
 fn put_bits(s: &mut [u8], from: usize, new: &[u8], count: usize) {
-    for i in 0..count % (sizes::PARITY_BITS + 1) {
+    for i in 0..count % MOST_BITS {
         put_bit(s, from % 100000000 + i, bits::bit_at(new, i));
     }
 }

@@ -1,6 +1,5 @@
--- `demands::map_unmap` meets its contract: the round trip. Assumes nothing.
-use denote.Ref.{now}
-use Rattle.mapping.specs.RoundTrip.{refused-first, went-on}
+-- `demands::map_unmap` meets its contract: the round trip of windows. Assumes nothing.
+use Rattle.mapping.specs.Steps.{refused-first, went-on}
 use Rattle.mapping.proofs.RoundTrip.{round-trip}
 use borrow.Author.Needs.{needs}
 use Rattle.demands.proofs.map_unmap.Statement.{statement}
@@ -13,7 +12,9 @@ same-length : tie.Need-same-length
 same-length c = search needs
 
 returns : tie.Need-returns
-returns c = ?
+returns c =
+    let given = c .before .before .before .before .before .before .before .before .shared-slice-known .given in
+    round-trip _ _ _ _ _ _ (λ k. given k .fits) (search refused-first)
 
 unmap-requires : tie.Need-unmap-requires
 unmap-requires c κs = search needs
@@ -26,12 +27,8 @@ same-length-3 c = search needs
 
 returns-2 : tie.Need-returns-2
 returns-2 c =
-    let u = c .before .before in
-    let m = u .before .before .before .before .before .before .before in
-    let k = m .before .before .before .before in
-    let a = k .before .args in
-    round-trip (a .c) (a .f) (a .n) (now (a .groups)) (now (a .window)) (now (a .back)) (λ i. k .shared-slice-known .given i .fits)
-    (went-on (m .map .ensures) (m .before .before .if1 .left) (u .unmap .ensures))
+    let given = c .before .before .before .before .before .before .before .before .before .before .before .before .before .shared-slice-known .given in
+    round-trip _ _ _ _ _ _ (λ k. given k .fits) (search went-on)
 
 pub map-unmap-spec : {M : Type 1} → statement M
 map-unmap-spec =
