@@ -1,6 +1,6 @@
 -- `demands::map_unmap` meets its contract: the round trip. Assumes nothing.
 use denote.Ref.{now}
-use Rattle.mapping.specs.RoundTrip.{refused-first, went-on}
+use Rattle.mapping.specs.Steps.{refused-first, went-on}
 use Rattle.mapping.proofs.RoundTrip.{round-trip}
 use borrow.Author.Needs.{needs}
 use Rattle.demands.proofs.map_unmap.Statement.{statement}
