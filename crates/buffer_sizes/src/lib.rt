@@ -2,7 +2,7 @@
 ghost use mathlib.Core.Path.{_≡_};
 ghost use lib.ListN.{length, replicate};
 ghost use Rattle.sizes.specs.Sizes.{places, mostFrames, infoLength, parityLength, captureLength, groupBytes, windowBytes};
-ghost use Rattle.gmp.specs.Places.{dataIn};
+ghost use Rattle.gmp.specs.Steps.{dataIn};
 ghost use Rattle.buffer_sizes.specs.Lengths.{largeBytes, smallBytes, Bytes, upTo};
 
 const MOST: u64 = sizes::MOST_FRAMES as u64;

@@ -9,7 +9,7 @@ use Rattle.bits.specs.Bits.{digit, bitOf, bitAt, Bits}
 use Rattle.bits.proofs.Packing.{bitOf-at, bitOf-packs}
 use Rattle.crc.specs.Crc.{remOf, shiftN}
 use Rattle.crc.proofs.Changes.{alone}
-use Rattle.scrambler.specs.Scrambler.{o, period}
+use Rattle.scrambler.specs.Scrambler.{o}
 use Rattle.scrambler.proofs.Rule.{o-lt}
 use Rattle.scrambler.proofs.Period.{within-period}
 use Rattle.sizes.specs.Sizes.{blockBits, infoBits, fecBits, fecBlocks, elementBits, superElements, fecElements}
@@ -20,6 +20,7 @@ use Rattle.line.specs.Words.{elementFrom, superIn, fecIn}
 use Rattle.line_order.proofs.OrderLaws.{word-symbol}
 use Rattle.editing.specs.Edit.{blockFrom, inBlock, replaced, change, crcChange, elementFec, elementLocal}
 use Rattle.editing.specs.Steps.{onePeriod}
+use Rattle.scrambler.specs.Steps.{period}
 use Rattle.editing.proofs.Touching.{block-in, block-before, block-past}
 
 -- ---- what is read

@@ -8,7 +8,7 @@ use borrow.Author.Tests.{eq-eqb}
 use Rattle.bits.specs.Bits.{digit, bitAt, pack, from, added, Bits}
 use Rattle.bits.proofs.Packing.{bitOf-lt, bitOf-packs, packs-ext}
 use Rattle.bits.proofs.Common.{cond-bit}
-use Rattle.scrambler.specs.Scrambler.{o, period}
+use Rattle.scrambler.specs.Scrambler.{o}
 use Rattle.hamming.specs.Code.{wordOf}
 use Rattle.hamming.proofs.Words.{coded-ext}
 use Rattle.sizes.specs.Sizes.{infoBits, crcBits, mbasBits, mbasFrom, parityFrom, fecBits, fecBlocks, elementBits, superElements, fecElements, infoElements}
@@ -23,6 +23,7 @@ use Rattle.editing.specs.Edit.{fecOf, inBlock, blockFrom, replaced, crcC
 use Rattle.editing.specs.Edit.{editedWord}
 use Rattle.editing.specs.Steps.{newInfoBit, newBit, newElement, onePeriod, parityElement, remade}
 use Rattle.editing.proofs.Changing.{sequence-from, received-at}
+use Rattle.scrambler.specs.Steps.{period}
 use Rattle.editing.proofs.Listing.{listed-holding, local-lt}
 
 -- bit i of element e lies in its FEC block

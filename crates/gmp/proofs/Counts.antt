@@ -6,8 +6,8 @@ use native.Mathlib.Nat.{mul-le-mul}
 use native.Mathlib.Omega.{arith}
 use lib.Dec.{ltb}
 use Rattle.bits.proofs.Common.{same-test}
-use Rattle.gmp.specs.Places.{dataFrom, outsideStretch, dataIn}
-use Rattle.gmp.specs.Steps.{Stretch, DataIn}
+use Rattle.gmp.specs.Places.{dataFrom, outsideStretch}
+use Rattle.gmp.specs.Steps.{Stretch, DataIn, dataIn}
 use Rattle.sizes.specs.Sizes.{places}
 use Rattle.gmp.proofs.Allowed.{not-outside-stretch}
 use Rattle.gmp.proofs.Floor.{data-split, data-le}

@@ -27,7 +27,3 @@ dataFrom c f n = count (λ k. isData c (f + k)) n
 -- the count is outside its set, or the n places from f on are not all places
 abbrev pub outsideStretch : ℕ → ℕ → ℕ → Bool
 outsideStretch c f n = ltb places c || (ltb f 1 || ltb places (f + n - 1))
-
--- how many of the n places from f on are data, for any numbers: none where they are not all places
-unfoldable pub dataIn : ℕ → ℕ → ℕ → ℕ
-dataIn c f n = cond (outsideStretch c f n) 0 (dataFrom c f n)

@@ -14,8 +14,9 @@ use Rattle.bits.proofs.Packing.{bitOf-lt, bitOf-at, num-bitOf}
 use Rattle.sizes.specs.Sizes.{checkBits, wordBytes}
 use Rattle.matrix.specs.Columns.{columns, columnOf}
 use Rattle.matrix.specs.Sums.{sumTo, taken, tailSum, tailOf}
-use Rattle.hamming.specs.Code.{checksOf, elementSum, joined, joinedWord, coded, byteSum}
+use Rattle.hamming.specs.Code.{checksOf, elementSum, joined, joinedWord, coded}
 use Rattle.matrix.proofs.Sums.{sum-same, sum-blocks, taken-same}
+use Rattle.hamming.specs.Steps.{byteSum}
 use Rattle.hamming.proofs.Words.{checks-joined, joined-low, joined-high}
 
 -- what the bytes of a word add

@@ -16,9 +16,10 @@ use Rattle.hamming.specs.declared.Repaired.{Repaired}
 use Rattle.sizes.specs.Sizes.{wordBits, wordBytes}
 use Rattle.matrix.specs.Columns.{columnOf, positionOf}
 use Rattle.hamming.specs.Code.{checksOf, turn}
-use Rattle.hamming.specs.Repair.{answer, repairAt, repairOf, foundOf}
+use Rattle.hamming.specs.Repair.{answer, repairAt, repairOf}
 use Rattle.matrix.proofs.Matrix.{column-odd, column-not-zero, columns-differ, position-column, column-position, no-column-even}
 use Rattle.hamming.proofs.Turning.{turn-long, turn-turn, checks-turn}
+use Rattle.hamming.specs.Steps.{foundOf}
 use Rattle.hamming.proofs.Words.{checks-lt}
 
 -- ---- the three cases

@@ -22,10 +22,6 @@ turn w i = set w (i / 8) (bitXor (getD w (i / 8) 0) (128 / 2 ^ (i % 8)))
 unfoldable pub elementSum : (ℕ → ℕ) → ℕ
 elementSum f = sumTo (taken 0 f) elementBits
 
--- what byte k of a word adds to them where it is x
-unfoldable pub byteSum : ℕ → ℕ → ℕ
-byteSum k x = sumTo (taken (8 * k) (digit 8 x)) 8
-
 -- the 119 bits f, and then the nine bits p
 unfoldable pub joined : (ℕ → ℕ) → ℕ → ℕ → ℕ
 joined f p i = cond (ltb i elementBits) (f i) (digit checkBits p (i - elementBits))

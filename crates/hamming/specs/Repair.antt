@@ -1,7 +1,7 @@
 -- Repair of a word (document 01, "Code words"): checks all zero, nothing; checks equal to a column, that bit is turned; otherwise the word is
 -- beyond repair and stays as it is. Assumes nothing: these are definitions.
 use Prim.Native.Nat.{ℕ}
-use mathlib.Core.Bool.{Bool, true, false, cond}
+use mathlib.Core.Bool.{cond}
 use mathlib.Core.List.{List}
 use lib.Dec.{ltb, eqb}
 use Rattle.hamming.specs.declared.Found.{Found}
@@ -27,9 +27,3 @@ abbrev pub numberOf : Found → ℕ
 numberOf Clean = 0
 numberOf (Turned i) = 0
 numberOf Beyond = 4
-
--- whether repair found anything, which is whether the checks were not zero: a repaired check bit counts too, and so does a word beyond repair
-abbrev pub foundOf : Found → Bool
-foundOf Clean = false
-foundOf (Turned i) = true
-foundOf Beyond = true

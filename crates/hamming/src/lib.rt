@@ -5,8 +5,9 @@ ghost use Rattle.sizes.specs.Sizes.{wordBits, checkBits, wordBytes};
 ghost use Rattle.bits.specs.Bits.{digit, bitAt};
 ghost use Rattle.matrix.specs.Columns.{columns, positionOf};
 ghost use Rattle.matrix.specs.Sums.{tailOf};
-ghost use Rattle.hamming.specs.Code.{checksOf, byteSum, turn, joinedWord, wordOf};
-ghost use Rattle.hamming.specs.Repair.{repairAt, repairOf, numberOf, foundOf};
+ghost use Rattle.hamming.specs.Code.{checksOf, turn, joinedWord, wordOf};
+ghost use Rattle.hamming.specs.Steps.{byteSum, foundOf};
+ghost use Rattle.hamming.specs.Repair.{repairAt, repairOf, numberOf};
 
 // What repair found: nothing, the bit that it turned, or more than it can repair.
 pub enum Found {

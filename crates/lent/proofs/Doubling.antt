@@ -18,7 +18,7 @@ use Rattle.bits.proofs.Xor.{digit-xor}
 use Rattle.sizes.specs.Sizes.{wordBytes}
 use Rattle.matrix.specs.Columns.{columnOf}
 use Rattle.matrix.specs.Sums.{taken}
-use Rattle.hamming.specs.Code.{byteSum}
+use Rattle.hamming.specs.Steps.{byteSum}
 use Rattle.lent.specs.Steps.{byteEntry, byteTable, Begun, Doubles}
 use Rattle.matrix.proofs.Sums.{unit, sum-same, sum-unit, taken-same, taken-xor}
 use Rattle.hamming.proofs.Turning.{mark-digit}

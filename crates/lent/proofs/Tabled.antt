@@ -11,7 +11,7 @@ use Rattle.bits.proofs.Packing.{bitOf-lt}
 use Rattle.sizes.specs.Sizes.{wordBytes}
 use Rattle.matrix.specs.Columns.{positionOf}
 use Rattle.matrix.specs.Sums.{tailOf}
-use Rattle.hamming.specs.Code.{checksOf, elementSum, joined, joinedWord, coded, wordOf, byteSum}
+use Rattle.hamming.specs.Code.{checksOf, elementSum, joined, joinedWord, coded, wordOf}
 use Rattle.hamming.specs.Repair.{repairAt, repairOf}
 use Rattle.lent.specs.Steps.{byteEntry, byteTable, entryAt, sumBy, wordBy}
 use Rattle.matrix.proofs.Sums.{sum-same}
@@ -19,6 +19,7 @@ use Rattle.matrix.proofs.Matrix.{tail-lt}
 use Rattle.hamming.proofs.Words.{checks-lt, element-lt, joined-lt, pack-bytes}
 use Rattle.hamming.proofs.ByBytes.{byteOfSum, checks-bytes, checks-alone}
 use Rattle.matrix.specs.Steps.{tailTable, positionTable}
+use Rattle.hamming.specs.Steps.{byteSum}
 use Rattle.lent.proofs.Doubling.{entry-of}
 
 byte-entry : (k x : ℕ) → k < wordBytes → x < 256 → getD byteTable (256 * k + x) 0 ≡ byteSum k x

@@ -8,7 +8,8 @@ use lib.Bits.{bitXor}
 use Rattle.bits.specs.Bits.{tabulate, bitAt}
 use Rattle.sizes.specs.Sizes.{checkBits, wordBytes}
 use Rattle.matrix.specs.Sums.{sumTo}
-use Rattle.hamming.specs.Code.{byteSum, joinedWord}
+use Rattle.hamming.specs.Steps.{byteSum}
+use Rattle.hamming.specs.Code.{joinedWord}
 
 -- the table of bytes: what byte k adds to the checks where it is x stands at 256 k + x
 unfoldable pub byteEntry : ℕ → ℕ

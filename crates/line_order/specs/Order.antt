@@ -1,7 +1,6 @@
 -- The order of the bytes of a capture. What it is to lay words out and to take one is said of any order; the line's order is one of
 -- them, and the only place where it is written out. Assumes nothing: these are definitions.
-use Prim.Native.Nat.{ℕ, _+_, _*_, _/_, _%_, _<_}
-use mathlib.Core.Path.{_≡_}
+use Prim.Native.Nat.{ℕ, _+_, _*_, _/_, _%_}
 use mathlib.Core.List.{List}
 use lib.ListN.{getD}
 use Rattle.bits.specs.Bits.{tabulate}
@@ -14,15 +13,6 @@ pub record Order : Type 0 where
   pub place : ℕ → ℕ → ℕ
   pub word : ℕ → ℕ
   pub symbol : ℕ → ℕ
-
--- on n words of sixteen bytes each symbol has a byte of its own, and each byte is one symbol's
-pub record OneToOne (o : Order) (n : ℕ) : Type 0 where
-  pub place-lt : (w k : ℕ) → w < n → k < wordBytes → o .place w k < wordBytes * n
-  pub word-lt : (b : ℕ) → b < wordBytes * n → o .word b < n
-  pub symbol-lt : (b : ℕ) → b < wordBytes * n → o .symbol b < wordBytes
-  pub word-at : (w k : ℕ) → w < n → k < wordBytes → o .word (o .place w k) ≡ w
-  pub symbol-at : (w k : ℕ) → w < n → k < wordBytes → o .symbol (o .place w k) ≡ k
-  pub place-back : (b : ℕ) → b < wordBytes * n → o .place (o .word b) (o .symbol b) ≡ b
 
 -- byte b of the words W laid out, and l bytes of them
 unfoldable pub byteBy : Order → (ℕ → List ℕ) → ℕ → ℕ
@@ -54,6 +44,7 @@ wordAt b = groupWords * (b / groupSize) + b % groupWords
 unfoldable pub symbolAt : ℕ → ℕ
 symbolAt b = b % groupSize / groupWords
 
+-- one to one on the words of a capture: `line-order` of proofs/OrderLaws.antt
 unfoldable pub lineOrder : Order
 lineOrder = record { place = symbolPlace; word = wordAt; symbol = symbolAt }
 

@@ -1,6 +1,7 @@
 -- What the code does with the order: a word is put into a capture, and eight words are a group of 128 bytes. Assumes nothing: these are definitions.
-use Prim.Native.Nat.{ℕ}
+use Prim.Native.Nat.{ℕ, _*_, _<_}
 use mathlib.Core.Bool.{cond}
+use mathlib.Core.Path.{_≡_}
 use mathlib.Core.List.{List, []}
 use lib.Dec.{ltb, eqb}
 use lib.ListN.{getD, set}
@@ -8,6 +9,15 @@ use Rattle.bits.specs.Bits.{tabulate}
 use Rattle.bits.specs.Loops.{upto}
 use Rattle.sizes.specs.Sizes.{wordBytes, groupWords}
 use Rattle.line_order.specs.Order.{Order, laidBy, wordBy, groupSize, lineOrder}
+
+-- on n words of sixteen bytes each symbol has a byte of its own, and each byte is one symbol's
+pub record OneToOne (o : Order) (n : ℕ) : Type 0 where
+  pub place-lt : (w k : ℕ) → w < n → k < wordBytes → o .place w k < wordBytes * n
+  pub word-lt : (b : ℕ) → b < wordBytes * n → o .word b < n
+  pub symbol-lt : (b : ℕ) → b < wordBytes * n → o .symbol b < wordBytes
+  pub word-at : (w k : ℕ) → w < n → k < wordBytes → o .word (o .place w k) ≡ w
+  pub symbol-at : (w k : ℕ) → w < n → k < wordBytes → o .symbol (o .place w k) ≡ k
+  pub place-back : (b : ℕ) → b < wordBytes * n → o .place (o .word b) (o .symbol b) ≡ b
 
 -- the word v put into a capture as word w, symbol by symbol; past the end nothing changes
 unfoldable pub putSymbolBy : Order → ℕ → List ℕ → ℕ → List ℕ → List ℕ

@@ -7,7 +7,7 @@ use native.Mathlib.Omega.{arith}
 use borrow.Author.Tests.{ltb-true, ltb-false}
 use lib.Dec.{ltb}
 use Rattle.bits.specs.Bits.{tabulate, byteOf, pack}
-use Rattle.gmp.specs.Places.{isData, dataFrom, dataIn}
+use Rattle.gmp.specs.Places.{isData, dataFrom}
 use Rattle.windows.specs.Windows.{Window}
 use Rattle.mapping.specs.Groups.{windowBit, groupPlace, groupsBit}
 use Rattle.mapping.specs.Steps.{piece, pairBit}
@@ -16,6 +16,7 @@ use Rattle.gmp.proofs.Counts.{data-inside}
 use Rattle.windows.proofs.Allowed.{stretch-of}
 use Rattle.windows.proofs.Judging.{data-window}
 use Rattle.sizes.specs.Sizes.{groupBits, pairBytes}
+use Rattle.gmp.specs.Steps.{dataIn}
 use Rattle.mapping.proofs.Pairs.{pack-part}
 
 -- bit i of a stretch of pieces of s: piece m is there where `on m` says so, and is piece `at m` of s

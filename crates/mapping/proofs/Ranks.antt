@@ -10,7 +10,7 @@ use lib.Dec.{ltb}
 use Rattle.bits.specs.Loops.{first}
 use Rattle.bits.proofs.Common.{by-bound}
 use Rattle.bits.proofs.LoopLaws.{First, first-holds, first-is, first-none}
-use Rattle.gmp.specs.Places.{isData, dataFrom, dataIn}
+use Rattle.gmp.specs.Places.{isData, dataFrom}
 use Rattle.windows.specs.Windows.{Window}
 use Rattle.mapping.specs.Groups.{groupPlace}
 use Rattle.mapping.specs.Steps.{GroupAt}
@@ -18,6 +18,7 @@ use Rattle.gmp.proofs.Counts.{before-product}
 use Rattle.windows.proofs.Allowed.{stretch-of}
 use Rattle.windows.proofs.Judging.{data-window}
 use Rattle.sizes.specs.Sizes.{places}
+use Rattle.gmp.specs.Steps.{dataIn}
 use Rattle.gmp.proofs.Floor.{before, data-split, data-le, data-more, data-grows, data-mono}
 
 -- ---- a quotient rounded up

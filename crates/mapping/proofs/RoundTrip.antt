@@ -20,11 +20,12 @@ use Rattle.answer.proofs.Turns.{in-turn, length-right}
 use Rattle.gmp.specs.Places.{isData, dataFrom}
 use Rattle.windows.specs.Windows.{Window, spareSet}
 use Rattle.mapping.specs.Groups.{windowBit, groupPlace, groupsBit}
-use Rattle.mapping.specs.RoundTrip.{backAnswer, mapUnmapAnswer, mapUnmapLeaves, MapUnmap, refused-first, went-on}
+use Rattle.mapping.specs.RoundTrip.{backAnswer, mapUnmapAnswer, mapUnmapLeaves}
 use Rattle.windows.specs.Answers.{mapAnswer, unmapRows, unmapAnswer}
 use Rattle.mapping.proofs.Pairs.{piece-lt}
 use Rattle.mapping.proofs.Ranks.{Stands, stands}
 use Rattle.sizes.specs.Sizes.{groupBits, pairBytes, groupBytes, windowBytes}
+use Rattle.mapping.specs.Steps.{MapUnmap, refused-first, went-on}
 use Rattle.windows.proofs.Judging.{MapTaken, map-taken}
 
 window-lt : (c f : ℕ) (g : List ℕ) → Bits (windowBit c f g)

@@ -3,7 +3,6 @@
 -- `round-trip` of proofs/RoundTrip.antt. Assumes nothing: these are definitions.
 use Prim.Native.Nat.{ℕ}
 use mathlib.Core.Bool.{cond}
-use mathlib.Core.Path.{_≡_}
 use mathlib.Core.List.{List}
 use lib.Dec.{eqb}
 use lib.ListN.{length}
@@ -15,7 +14,7 @@ use Rattle.answer.specs.declared.Answer.{Answer}
 use Rattle.gmp.specs.Places.{dataFrom}
 use Rattle.sizes.specs.Sizes.{windowBytes}
 use Rattle.windows.specs.Answers.{mapAnswer}
-use Rattle.mapping.specs.Groups.{windowBit, Mapped, Unmapped}
+use Rattle.mapping.specs.Groups.{windowBit}
 
 -- what unmapping answers to a window that was mapped: b, its second buffer, must be as long as the groups, and nothing else is refused
 unfoldable pub backAnswer : ℕ → ℕ → ℕ → List ℕ → List ℕ → Answer
@@ -31,9 +30,3 @@ mapUnmapAnswer c f n g w b =
 unfoldable pub mapUnmapLeaves : ℕ → ℕ → ℕ → List ℕ → List ℕ → List ℕ → List ℕ × List ℕ
 mapUnmapLeaves c f n g w b =
     written (mapAnswer c f n g (length w)) (pack (windowBytes n) (windowBit c f g), written (backAnswer c f n g b) g b) (w, b)
-
--- mapping, and then unmapping where it was done: the answer r, and what is left in both buffers
-pub data MapUnmap (c f n : ℕ) (g w b : List ℕ) : Answer → List ℕ × List ℕ → Type 0 where
-  refused-first : {r : Answer} {out : List ℕ} → Mapped c f n g w r out → (r .number ≡ allDone → ⊥) → MapUnmap c f n g w b r (out, b)
-  went-on : {m r : Answer} {out back : List ℕ} → Mapped c f n g w m out → m .number ≡ allDone → Unmapped c f n out b r back
-      → MapUnmap c f n g w b r (out, back)

@@ -14,12 +14,13 @@ use Rattle.bits.proofs.LoopLaws.{First, first-holds, first-is, first-none, Pass
 use Rattle.bits.proofs.Counting.{count-more, count-le}
 use Rattle.hamming.specs.declared.Repaired.{Repaired}
 use Rattle.hamming.specs.Code.{checksOf}
-use Rattle.hamming.specs.Repair.{repairOf, numberOf, foundOf}
+use Rattle.hamming.specs.Repair.{repairOf, numberOf}
 use Rattle.hamming.proofs.Repairs.{none-kept, found-checks}
 use Rattle.line.specs.Slots.{holds}
 use Rattle.line_order.specs.Order.{wordIn}
 use Rattle.reading.specs.Read.{repaired, allZero, isBeyond, isFilled, isSeen}
 use Rattle.reading.specs.Steps.{soughtOf, wordsTo}
+use Rattle.hamming.specs.Steps.{foundOf}
 use Rattle.reading.specs.declared.WordTally.{WordTally}
 
 -- ---- a search

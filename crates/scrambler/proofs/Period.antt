@@ -6,8 +6,8 @@ use native.Mathlib.Nat.{add-zero, add-assoc, mul-zero, mul-suc}
 use native.Mathlib.Omega.{arith}
 use Rattle.bits.specs.Bits.{digit}
 use Rattle.bits.proofs.Numbers.{digit-num}
-use Rattle.scrambler.specs.Scrambler.{o, period}
-use Rattle.scrambler.specs.Steps.{register}
+use Rattle.scrambler.specs.Scrambler.{o}
+use Rattle.scrambler.specs.Steps.{register, period}
 use Rattle.scrambler.proofs.Rule.{o-lt, o-step, o-first, only-o}
 use Rattle.scrambler.proofs.Stepping.{starts, next-is}
 

@@ -17,7 +17,3 @@ hist (suc n) = push (hist n)
 -- proofs/Rule.antt
 unfoldable pub o : ℕ → ℕ
 o n = getD (hist n) 15 0
-
--- after so many bits it repeats (`again` of proofs/Period.antt)
-abbrev pub period : ℕ
-period = 65535

@@ -30,3 +30,7 @@ pub record Opened (m : ℕ) (d out : List ℕ) : Type 0 where
 pub record Begun (m : ℕ) (out : List ℕ) : Type 0 where
   pub within : m ≤ length out
   pub is : out ≡ pack m o ++ drop m out
+
+-- after so many bits it repeats (`again` of proofs/Period.antt)
+abbrev pub period : ℕ
+period = 65535

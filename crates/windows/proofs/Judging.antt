@@ -10,12 +10,13 @@ use Rattle.answer.specs.Rows.{done, rising, rowNumber}
 use Rattle.answer.specs.Steps.{inTurn, NoFault, RowPassed, Passed}
 use Rattle.answer.specs.declared.Answer.{Answer}
 use Rattle.answer.proofs.Turns.{by-turns, turn-passed, granted-passed, right-length}
-use Rattle.gmp.specs.Places.{dataFrom, dataIn}
+use Rattle.gmp.specs.Places.{dataFrom}
 use Rattle.gmp.proofs.Counts.{data-inside}
 use Rattle.sizes.specs.Sizes.{places, groupBytes, windowBytes}
 use Rattle.windows.specs.Windows.{outsideWindow, Window, spareSet}
 use Rattle.windows.specs.Answers.{mapRows, mapAnswer, unmapRows, unmapAnswer}
 use Rattle.windows.specs.Steps.{mapLate, unmapLate}
+use Rattle.gmp.specs.Steps.{dataIn}
 use Rattle.windows.proofs.Allowed.{stretch-of, window-in}
 
 -- the data places of a window, as they are counted

@@ -8,7 +8,7 @@ use Rattle.bits.proofs.Numbers.{digit-lt}
 use Rattle.bits.specs.Bits.{digit}
 use Rattle.matrix.specs.Columns.{columnOf}
 use Rattle.matrix.specs.Sums.{taken}
-use Rattle.hamming.specs.Code.{byteSum}
+use Rattle.hamming.specs.Steps.{byteSum}
 use Rattle.matrix.proofs.Sums.{Summed, summed-none, summed-more, summed-all}
 use Rattle.hamming.proofs.byte_sum.Statement.{statement}
 use Rattle.hamming.proofs.byte_sum.Tie as tie
