@@ -14,15 +14,15 @@ ghost use Rattle.coder.specs.Code.{captureOf, codeRows, codeAnswer, code
 ghost use Rattle.coder.specs.Steps.{Agree, plainBit, tailBit, entry, Crcs, Granted, Ready};
 
 // Words are written eight at a time.
-const SUPER_GROUPS: usize = sizes::SUPER_ELEMENTS / 8;
+const SUPER_GROUPS: usize = sizes::SUPER_ELEMENTS / sizes::GROUP_WORDS;
 
-const FILLER_GROUPS: usize = sizes::LONGEST_WAIT / 8;
+const FILLER_GROUPS: usize = sizes::LONGEST_WAIT / sizes::GROUP_WORDS;
 
 // CRC and MBAS stand between the information and the parity.
 const GUARD_BITS: usize = sizes::PARITY_FROM - sizes::INFO_BITS;
 
 // Eight super frames have so many FEC blocks.
-const MOST_BLOCKS: usize = 8 * sizes::FEC_BLOCKS;
+const MOST_BLOCKS: usize = sizes::MOST_FRAMES * sizes::FEC_BLOCKS;
 
 // Codes n super frames whose FEC blocks count from m0 on. The count is the number of words written.
 pub fn code(n: u64, m0: u64, info: &[u8], parity: &[u8], capture: &mut [u8]) -> Answer
@@ -141,8 +141,8 @@ fn group(
     ensures { λ r. ⌜ r ≡ tabulate 8 (from (wordsOf n (fecBit m0 (now (info .entry)) (now (parity .entry)))) (8 * g)) ⌝ }
 {
     let mut words = [[0u8; 16]; 8];
-    for j in 0..8 {
-        words[j] = word(n, m0, info, parity, crcs, sequence, table, tails, 8 * g + j);
+    for j in 0..sizes::GROUP_WORDS {
+        words[j] = word(n, m0, info, parity, crcs, sequence, table, tails, sizes::GROUP_WORDS * g + j);
     }
     words
 }
@@ -212,7 +212,7 @@ fn tail_element(crc: u32, mbas: u8, parity: &[u8], at: usize) -> [u8; 16]
     ensures { λ r. ⌜ r ≡ pack 16 (tailBit crc mbas (from (bitAt (now (parity .entry))) at)) ⌝ }
 {
     let mut r = [0u8; 16];
-    for k in 0..16 {
+    for k in 0..sizes::WORD_BYTES {
         r[k] = tail_byte(crc, mbas, parity, at, k);
     }
     r
@@ -237,7 +237,7 @@ fn put_group(out: &mut [u8], group: [u8; 128])
     requires { ⌜ length (now out) ≡ 128 ⌝ }
     ensures { λ _. ⌜ now (out .exit) ≡ tabulate 128 (entry group) ⌝ }
 {
-    for k in 0..128 {
+    for k in 0..sizes::GROUP_BYTES {
         out[k] = group[k];
     }
 }

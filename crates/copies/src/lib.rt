@@ -54,7 +54,7 @@ pub fn sum(a: [u8; 16], b: [u8; 16]) -> [u8; 16]
     ensures { λ r. ⌜ r ≡ pack 16 (added (bitAt a) (bitAt b)) ⌝ }
 {
     let mut r = [0u8; 16];
-    for k in 0..16 {
+    for k in 0..sizes::WORD_BYTES {
         r[k] = a[k] ^ b[k];
     }
     r

@@ -14,7 +14,7 @@ pub fn bit(i: usize) -> [u8; 16]
     ensures { λ r. ⌜ r ≡ bitAlone i ⌝ }
 {
     let mut v = [0u8; 16];
-    if i < 128 {
+    if i < sizes::WORD_BITS {
         v[i / 8] = 128 >> (i % 8);
     }
     v
@@ -24,7 +24,7 @@ pub fn bit(i: usize) -> [u8; 16]
 pub fn turn_in_all(capture: &mut [u8])
     ensures { λ _. ⌜ now (capture .exit) ≡ turnedInAll (now (capture .entry)) ⌝ }
 {
-    for w in 0..capture.len() / 16 {
+    for w in 0..capture.len() / sizes::WORD_BYTES {
         turn(capture, w, bit((w % 128 * 37 + 11) % 128));
     }
 }

@@ -351,7 +351,7 @@ fn new_element(
     ensures { λ r. ⌜ r ≡ pack 16 (newElement b (now (bits .entry)) (now (parity .entry)) crc e (now (old .entry))) ⌝ }
 {
     let mut r = [0u8; 16];
-    for j in 0..16 {
+    for j in 0..sizes::WORD_BYTES {
         r[j] = new_byte(b, bits, parity, scr, crc, e, old, j);
     }
     r

@@ -51,7 +51,7 @@ fn word_inside(capture: &[u8], w: usize) -> [u8; 16]
     let group = sizes::GROUP_BYTES * (w / sizes::GROUP_WORDS);
     let j = w % sizes::GROUP_WORDS;
     let mut r = [0u8; 16];
-    for k in 0..16 {
+    for k in 0..sizes::WORD_BYTES {
         r[k] = capture[group + in_group(j, k)];
     }
     r
@@ -62,7 +62,7 @@ fn word_tested(capture: &[u8], w: usize) -> [u8; 16]
     ensures { λ r. ⌜ r ≡ wordIn (now (capture .entry)) w ⌝ }
 {
     let mut r = [0u8; 16];
-    for k in 0..16 {
+    for k in 0..sizes::WORD_BYTES {
         r[k] = bits::byte_at(capture, place_below(capture.len(), w, k));
     }
     r
@@ -87,7 +87,7 @@ fn checks_inside(t: &[u16; 4096], capture: &[u8], w: usize) -> u16
     let group = sizes::GROUP_BYTES * (w / sizes::GROUP_WORDS);
     let j = w % sizes::GROUP_WORDS;
     let mut sum = 0u16;
-    for k in 0..16 {
+    for k in 0..sizes::WORD_BYTES {
         sum = sum ^ t[256 * k + bits::wide(capture[group + in_group(j, k)]) as usize];
     }
     sum
@@ -113,7 +113,7 @@ fn put_inside(capture: &mut [u8], w: usize, v: [u8; 16])
 {
     let group = sizes::GROUP_BYTES * (w / sizes::GROUP_WORDS);
     let j = w % sizes::GROUP_WORDS;
-    for s in 0..16 {
+    for s in 0..sizes::WORD_BYTES {
         capture[group + in_group(j, s)] = v[s];
     }
 }
@@ -134,7 +134,7 @@ fn put_symbol(capture: &mut [u8], w: usize, k: usize, x: u8)
 fn put_tested(capture: &mut [u8], w: usize, v: [u8; 16])
     ensures { λ _. ⌜ now (capture .exit) ≡ putWord (now (capture .entry)) w v ⌝ }
 {
-    for k in 0..16 {
+    for k in 0..sizes::WORD_BYTES {
         put_symbol(capture, w, k, v[k]);
     }
 }
@@ -157,7 +157,7 @@ pub fn interleave(words: [[u8; 16]; 8]) -> [u8; 128]
     ensures { λ r. ⌜ r ≡ laidGroup words ⌝ }
 {
     let mut out = [0u8; 128];
-    for w in 0..8 {
+    for w in 0..sizes::GROUP_WORDS {
         put_inside(&mut out, w, words[w]);
     }
     out
@@ -168,7 +168,7 @@ pub fn deinterleave(s: [u8; 128]) -> [[u8; 16]; 8]
     ensures { λ r. ⌜ r ≡ takenGroup s ⌝ }
 {
     let mut words = [[0u8; 16]; 8];
-    for w in 0..8 {
+    for w in 0..sizes::GROUP_WORDS {
         words[w] = word_inside(&s, w);
     }
     words

@@ -135,7 +135,7 @@ fn repair_word(positions: &[u8; 512], word: [u8; 16], c: u16) -> Repaired
 fn all_zero(word: [u8; 16]) -> bool
     ensures { λ r. ⌜ r ≡ allZero word ⌝ }
 {
-    for k in 0..16 {
+    for k in 0..sizes::WORD_BYTES {
         if word[k] != 0 {
             return false;
         }
@@ -244,7 +244,7 @@ fn from_bit(v: [u8; 16], i: usize) -> [u8; 16]
     ensures { λ r. ⌜ r ≡ pack 16 (from (bitAt v) i) ⌝ }
 {
     let mut w = [0u8; 17];
-    for k in 0..16 {
+    for k in 0..sizes::WORD_BYTES {
         w[k] = v[k];
     }
     copies::word_from(&w, i)
