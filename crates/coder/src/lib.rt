@@ -142,7 +142,17 @@ fn group(
 {
     let mut words = [[0u8; 16]; 8];
     for j in 0..sizes::GROUP_WORDS {
-        words[j] = word(n, m0, info, parity, crcs, sequence, table, tails, sizes::GROUP_WORDS * g + j);
+        words[j] = word(
+            n,
+            m0,
+            info,
+            parity,
+            crcs,
+            sequence,
+            table,
+            tails,
+            sizes::GROUP_WORDS * g + j,
+        );
     }
     words
 }
