@@ -2,7 +2,7 @@
 use mathlib.Core.Path.{_≡_, sym, ap, _∙_}
 use borrow.Author.Tests.{eq-eqb, ne-eqb}
 use Rattle.answer.specs.Numbers.{allDone}
-use Rattle.answer.specs.Outcomes.{Outcome, written}
+use Rattle.answer.specs.Outcomes.{Outcome, written, andThen}
 use Rattle.answer.specs.declared.Answer.{Answer}
 
 -- ONE ANSWER: two outcomes that meet a contract at one entry are equal
@@ -26,3 +26,17 @@ meets-done {B} {says} {r} {new} {out} old e h p =
 pub meets-refused : {B : Type 0} {says r : Answer} {old : B} (new : B) → r ≡ says → (r .number ≡ allDone → ⊥) → Outcome says (written says new old) r old
 meets-refused {B} {says} {r} {old} new e h =
     record { told = e; kept = sym (written-refused says new old (λ z. h (ap (λ (x : Answer). x .number) e ∙ z))) }
+
+-- two calls in a row: the first is refused, and lent memory is as it was; or it is done, and the second answers and decides what is left
+module _ {B : Type 0} {first second : Answer} {new old : B} where
+  pub stops-there : {r : Answer} {left : B} → r ≡ first → (r .number ≡ allDone → ⊥) → left ≡ old
+      → Outcome (andThen first second) (written first new old) r left
+  stops-there {r} e h k =
+      let n : first .number ≡ allDone → ⊥ = λ z. h (ap (λ (x : Answer). x .number) e ∙ z) in
+      record { told = e ∙ sym (written-refused first second first n); kept = k ∙ sym (written-refused first new old n) }
+
+  pub goes-further : {m r : Answer} {left : B} → m ≡ first → m .number ≡ allDone → Outcome second new r left
+      → Outcome (andThen first second) (written first new old) r left
+  goes-further {m} e h o =
+      let z : first .number ≡ allDone = ap (λ (x : Answer). x .number) (sym e) ∙ h in
+      record { told = o .told ∙ sym (written-done first second first z); kept = o .kept ∙ sym (written-done first new old z) }

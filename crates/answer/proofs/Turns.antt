@@ -6,7 +6,7 @@ use mathlib.Core.Path.{_≡_, refl, sym, ap, _∙_}
 use mathlib.Core.List.{List, [], _∷_, _++_}
 use native.Mathlib.Nat.{lt-irrefl}
 use native.Mathlib.Omega.{arith}
-use borrow.Author.Tests.{ltb-true, eq-eqb, ne-eqb, lt-ltb, le-ltb, eqb-true, not-true, not-false}
+use borrow.Author.Tests.{ltb-true, eq-eqb, ne-eqb, lt-ltb, le-ltb, eqb-true, not-false}
 use lib.Dec.{ltb, eqb}
 use lib.ListN.{length}
 use Rattle.bits.specs.Loops.{first}
@@ -87,6 +87,10 @@ unfolding inTurn
 then-later [] late next = refl
 then-later (r ∷ rows) late next = ap (rowThen r) (then-later rows late next)
 
+-- the first rows in turn, and then what the others answer
+pub turn-late : (early late : List Row) (d : ℕ) → answerOf (early ++ late) d ≡ inTurn early (answerOf late d)
+turn-late early late d = in-turn (early ++ late) d ∙ then-later early late (done d) ∙ ap (inTurn early) (sym (in-turn late d))
+
 -- a test that refuses leaves what comes next out
 test-stops : (t : Bool) (a x y : Answer) → ((x .number ≡ allDone → ⊥) → x ≡ y) → (cond t a x .number ≡ allDone → ⊥) → cond t a x ≡ cond t a y
 test-stops true a x y h n = refl
@@ -113,8 +117,7 @@ stops (r ∷ rows) c y n = row-stops r (inTurn rows (done c)) (inTurn rows y) (s
 pub early-refused : (early late : List Row) (c d : ℕ) {r : Answer} → r ≡ inTurn early (done c) → (r .number ≡ allDone → ⊥)
     → r ≡ answerOf (early ++ late) d
 early-refused early late c d {r} e n =
-    e ∙ stops early c (inTurn late (done d)) (λ z. n (ap (λ (x : Answer). x .number) e ∙ z))
-    ∙ sym (in-turn (early ++ late) d ∙ then-later early late (done d))
+    e ∙ stops early c (answerOf late d) (λ z. n (ap (λ (x : Answer). x .number) e ∙ z)) ∙ sym (turn-late early late d)
 
 -- ---- what a call that goes on has shown: the number is 0 only if no test refused, where each refuses by a number that is not 0
 
@@ -170,7 +173,7 @@ goes-on [] x p = refl
 goes-on (r ∷ rows) x p = row-goes-on r (inTurn rows x) (p .0) ∙ goes-on rows x (p .1)
 
 pub early-passed : (early late : List Row) (d : ℕ) → Passed early → answerOf (early ++ late) d ≡ answerOf late d
-early-passed early late d p = in-turn (early ++ late) d ∙ then-later early late (done d) ∙ goes-on early (inTurn late (done d)) p ∙ sym (in-turn late d)
+early-passed early late d p = turn-late early late d ∙ goes-on early (answerOf late d) p
 
 -- no test holds: the call is done
 pub all-passed : (rows : List Row) (c : ℕ) → Passed rows → answerOf rows c ≡ done c

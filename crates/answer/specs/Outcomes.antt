@@ -13,3 +13,7 @@ pub record Outcome {A B : Type 0} (says : A) (leaves : B) (answer : A) (left : B
 -- "A refusal changes no output byte": the new contents where the call was done, else the old
 unfoldable pub written : {B : Type 0} → Answer → B → B → B
 written a new old = cond (eqb (a .number) allDone) new old
+
+-- a second call is made where the first was done: the answer is the second's, or else the first's refusal
+abbrev pub andThen : Answer → Answer → Answer
+andThen first second = written first second first

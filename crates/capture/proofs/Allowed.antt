@@ -1,12 +1,11 @@
 -- No hypothesis of a demand is narrower than document 01: whatever it allows is an input, and an edit. The numbers here are the document's own.
 -- Assumes nothing.
 use Prim.Native.Nat.{ℕ, _+_, _*_, _≤_, _<_}
-use mathlib.Core.Bool.{false, not}
+use mathlib.Core.Bool.{not}
 use mathlib.Core.Path.{_≡_, ap}
 use mathlib.Core.List.{List}
 use native.Mathlib.Omega.{arith}
 use borrow.Author.Tests.{lt-ltb, eq-eqb}
-use lib.Dec.{eqb}
 use lib.ListN.{length}
 use Rattle.bits.specs.Bits.{num, bitAt, Bytes}
 use Rattle.bits.proofs.Numbers.{num-zero}

@@ -3,7 +3,7 @@
 use Prim.Native.Nat.{ℕ, _+_, _-_, _*_, _^_, _<_}
 use mathlib.Core.Bool.{Bool, true, false, cond, not, _&&_}
 use mathlib.Core.Path.{_≡_, refl, sym, ap, _∙_}
-use mathlib.Core.List.{List}
+use mathlib.Core.List.{List, [], _∷_}
 use native.Mathlib.Omega.{arith}
 use borrow.Author.Tests.{ltb-true, eq-eqb, ne-eqb}
 use lib.Dec.{ltb, eqb}
@@ -12,10 +12,12 @@ use Rattle.bits.specs.Bits.{num, Bits}
 use Rattle.bits.specs.Loops.{count}
 use Rattle.bits.proofs.Numbers.{num-is, num-zero}
 use Rattle.bits.proofs.Counting.{count-ext}
-use Rattle.answer.specs.Rows.{done}
-use Rattle.answer.specs.Steps.{NoFault, RowPassed, Passed}
+use Rattle.answer.specs.Numbers.{wrongLength}
+use Rattle.answer.specs.Rows.{buffers, wrong, done, answerOf}
+use Rattle.answer.specs.Outcomes.{written}
+use Rattle.answer.specs.Steps.{faultsThen, rowThen, inTurn, NoFault, RowPassed, Passed}
 use Rattle.answer.specs.declared.Answer.{Answer}
-use Rattle.answer.proofs.Turns.{early-passed, all-passed, length-right, none-there}
+use Rattle.answer.proofs.Turns.{in-turn, turn-late, all-passed, length-right, none-there}
 use Rattle.answer.proofs.Meets.{written-done}
 use Rattle.crc.specs.Crc.{crcOf}
 use Rattle.crc.proofs.Changes.{crc-ext, crc-lt}
@@ -40,7 +42,7 @@ use Rattle.coder.specs.Code.{captureOf}
 use Rattle.coder.proofs.Coding.{word-filler}
 use Rattle.reading.specs.Read.{repaired, allZero, isBeyond, isFilled, mbasDiffers, crcDiffers, padDiffers, isSeen, readEarlyRows, readLateRows}
 use Rattle.reading.specs.Read.{readAnswer, readLeaves}
-use Rattle.capture.specs.Demand2.{Input, Choice, chosen, hurt, damaged, howMany, Demand2}
+use Rattle.capture.specs.Demand2.{Input, Choice, chosen, hurt, damaged, howMany, damagedAnswer, Demand2}
 use Rattle.capture.proofs.ReadLaws.{words-long, held-bits, super-read, fec-read}
 
 -- ---- a code word with at most one bit turned
@@ -169,38 +171,39 @@ module _ (N m0 : ℕ) (info par : List ℕ) (flips : Choice) where
   unfolding howMany
   counted = count-ext (isSeen cap) (chosen flips) (words N) seen-chosen
 
-  module _ (input : Input N m0 info par) (info₀ par₀ : List ℕ) (info₀-long : length info₀ ≡ infoLength N) (par₀-long : length par₀ ≡ parityLength N) where
-    cap-long : length cap ≡ captureLength N
-    unfolding damaged
-    cap-long = length-laid N (λ w. hurt (wordIn (captureOf N m0 info par) w) (flips w))
-
-    -- numbers 1 and 2 do not apply, whatever the first number is that is read with
-    pub early-passed-by : (m1 : ℕ) → mbasAllowed m1 ≡ true → Passed (readEarlyRows N m1 (length cap) (length info₀) (length par₀))
-    unfolding readEarlyRows Passed RowPassed NoFault
-    early-passed-by m1 e =
-        let inside : not (superAllowed N && mbasAllowed m1) ≡ false = rw (input .frames, e) in
-        (inside, ((length-right cap-long, (length-right info₀-long, (length-right par₀-long, tt))), tt))
-
-    late-passed : Passed (readLateRows N m0 cap)
-    unfolding readLateRows Passed RowPassed
-    late-passed = (
-      none-there (words N) (isBeyond cap) no-4,
+  late-passed : Passed (readLateRows N m0 cap)
+  unfolding readLateRows Passed RowPassed
+  late-passed = (
+    none-there (words N) (isBeyond cap) no-4,
+    (
+      none-there (words N) (isFilled N cap) no-5,
       (
-        none-there (words N) (isFilled N cap) no-5,
-        (
-          none-there (fecBlocks * N) (mbasDiffers m0 cap) no-6,
-          (none-there (fecBlocks * N) (crcDiffers cap) no-7, (none-there N (padDiffers cap) no-8, tt)),
-        ),
+        none-there (fecBlocks * N) (mbasDiffers m0 cap) no-6,
+        (none-there (fecBlocks * N) (crcDiffers cap) no-7, (none-there N (padDiffers cap) no-8, tt)),
       ),
-    )
+    ),
+  )
 
-    pub answers-done : readAnswer N m0 cap info₀ par₀ ≡ done (howMany N flips)
-    unfolding readAnswer
-    answers-done =
-        let c = count (isSeen cap) (words N) in
-        early-passed (readEarlyRows N m0 (length cap) (length info₀) (length par₀)) (readLateRows N m0 cap) c (early-passed-by m0 (input .number))
-        ∙ all-passed (readLateRows N m0 cap) c late-passed
-        ∙ ap done counted
+  late-done : answerOf (readLateRows N m0 cap) (count (isSeen cap) (words N)) ≡ done (howMany N flips)
+  late-done = all-passed (readLateRows N m0 cap) (count (isSeen cap) (words N)) late-passed ∙ ap done counted
+
+  pub cap-long : length cap ≡ captureLength N
+  unfolding damaged
+  cap-long = length-laid N (λ w. hurt (wordIn (captureOf N m0 info par) w) (flips w))
+
+  module _ (input : Input N m0 info par) (info₀ par₀ : List ℕ) where
+    abbrev wants : Answer
+    wants = damagedAnswer N flips (length info₀) (length par₀)
+
+    inside : not (superAllowed N && mbasAllowed m0) ≡ false
+    inside = rw (input .frames, input .number)
+
+    -- of numbers 1 and 2 only the length of a buffer to be filled can apply
+    pub answers-any : readAnswer N m0 cap info₀ par₀ ≡ wants
+    unfolding readAnswer readEarlyRows damagedAnswer inTurn rowThen faultsThen
+    answers-any =
+        turn-late (readEarlyRows N m0 (length cap) (length info₀) (length par₀)) (readLateRows N m0 cap) (count (isSeen cap) (words N))
+        ∙ rw (inside, length-right cap-long, late-done, in-turn (buffers wrongLength (false ∷ _ ∷ _ ∷ []) ∷ []) (howMany N flips))
 
     info-read : infoOf N (fecIn (repaired cap)) ≡ info
     info-read =
@@ -212,15 +215,19 @@ module _ (N m0 : ℕ) (info par : List ℕ) (flips : Choice) where
         parity-back N (fecIn (repaired cap)) par (input .parity-long) (input .parity-bytes)
         (λ t j ht hj. block-read t (parityFrom + j) ht (omega arith) ∙ fec-parity m0 info par t j)
 
-    pub leaves-input : readLeaves N m0 cap info₀ par₀ ≡ (info, par)
+    pub leaves-any : readLeaves N m0 cap info₀ par₀ ≡ written wants (info, par) (info₀, par₀)
     unfolding readLeaves
-    leaves-input =
-        written-done (readAnswer N m0 cap info₀ par₀) (infoOf N (fecIn (repaired cap)), parityOf N (fecIn (repaired cap))) (info₀, par₀)
-        (ap (λ (a : Answer). a .number) answers-done)
-        ∙ rw (info-read, parity-read)
+    leaves-any = rw (answers-any, info-read, parity-read)
 
 -- ---- the theorem
 
 pub demand-2 : (N m0 : ℕ) (info par : List ℕ) → Input N m0 info par → (flips : Choice) → Demand2 N m0 info par flips
+unfolding damagedAnswer Passed RowPassed NoFault
 demand-2 N m0 info par input flips info₀ par₀ i₀ p₀ =
-    record { answer = answers-done N m0 info par flips input info₀ par₀ i₀ p₀; buffers = leaves-input N m0 info par flips input info₀ par₀ i₀ p₀ }
+    let done-all : damagedAnswer N flips (length info₀) (length par₀) ≡ done (howMany N flips) =
+    all-passed (buffers wrongLength (false ∷ wrong (infoLength N) (length info₀) ∷ wrong (parityLength N) (length par₀) ∷ []) ∷ []) (howMany N flips)
+    ((refl, (length-right i₀, (length-right p₀, tt))), tt) in
+    record {
+      answer = answers-any N m0 info par flips input info₀ par₀ ∙ done-all;
+      buffers = leaves-any N m0 info par flips input info₀ par₀ ∙ written-done _ (info, par) (info₀, par₀) (ap (λ (a : Answer). a .number) done-all);
+    }

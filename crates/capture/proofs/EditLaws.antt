@@ -32,7 +32,7 @@ use Rattle.line_order.proofs.OrderLaws.{laid-ext, word-laid}
 use Rattle.coder.specs.Code.{captureOf}
 use Rattle.editing.specs.Edit.{fecOf, blockFrom, inBlock, replaced, change, crcChange, newCrc, editedBits, editedFec, touched, elementFec, elementLocal}
 use Rattle.editing.specs.Edit.{listed, editedWord, editedCapture}
-use Rattle.editing.proofs.Listing.{holding-listed, local-lt}
+use Rattle.editing.proofs.Listing.{holding-listed}
 use Rattle.editing.proofs.Remaking.{element-of, local-place-lt}
 use Rattle.editing.proofs.Changing.{change-bits}
 use Rattle.capture.specs.Demand3.{newInfo, newParity}

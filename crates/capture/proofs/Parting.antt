@@ -1,14 +1,14 @@
 -- The request for the information of an FEC block: the table, the part, and what a granted request has shown. Assumes nothing.
-use Prim.Native.Nat.{ℕ, _+_, _-_, _*_, _≤_, _<_}
-use mathlib.Core.Bool.{true, not, _&&_}
+use Prim.Native.Nat.{ℕ, _+_, _-_, _*_, _<_}
+use mathlib.Core.Bool.{true, _&&_}
 use mathlib.Core.Path.{_≡_, refl, sym, ap, _∙_}
 use mathlib.Core.List.{List, []}
 use native.Mathlib.Nat.{add-sub-cancel-left}
 use native.Mathlib.Omega.{arith}
 use borrow.Author.Tests.{ltb-true, not-false}
 use lib.Dec.{ltb}
-use lib.ListN.{length, take, drop, length-take, length-drop}
-use Rattle.bits.proofs.Common.{and-left, and-right}
+use lib.ListN.{length, take, drop}
+use Rattle.bits.proofs.Common.{and-right}
 use Rattle.bits.proofs.Lists.{part-long}
 use Rattle.answer.specs.Numbers.{allDone}
 use Rattle.answer.specs.Rows.{Row, done, rowNumber, rising}
@@ -18,9 +18,9 @@ use Rattle.answer.specs.declared.Answer.{Answer}
 use Rattle.answer.proofs.Table.{exactly}
 use Rattle.answer.proofs.Turns.{in-turn, passed, right-length}
 use Rattle.answer.proofs.Meets.{written-done, written-refused}
-use Rattle.sizes.specs.Sizes.{infoBytes, fecBlocks, infoLength}
+use Rattle.sizes.specs.Sizes.{infoBytes, fecBlocks, infoLength, mostFrames}
 use Rattle.line.specs.Captures.{superAllowed}
-use Rattle.line.proofs.CaptureLaws.{super-frames}
+use Rattle.line.proofs.CaptureLaws.{frames-in}
 use Rattle.capture.specs.Part.{partRows, partAnswer, partOf}
 
 part-rise : (N t info : ℕ) → rising 0 (partRows N t info) ≡ true
@@ -29,7 +29,7 @@ part-rise N t info = refl
 
 -- a granted request
 pub record Part (N t : ℕ) (info : List ℕ) : Type 0 where
-  pub few : N < 9
+  pub few : N ≤ mostFrames
   pub block : t < fecBlocks * N
   pub long : length info ≡ infoLength N
 
@@ -53,7 +53,7 @@ module _ (N t : ℕ) (info : List ℕ) where
         let p = passed rows (done 0) (part-rise N t (length info)) (e ∙ in-turn rows 0) z in
         let q = not-false (superAllowed N && ltb t (fecBlocks * N)) (p .0) in
         record {
-          few = super-frames N (and-left (superAllowed N) (ltb t (fecBlocks * N)) q) .few;
+          few = frames-in N (ltb t (fecBlocks * N)) refl (p .0) .few;
           block = ltb-true t (fecBlocks * N) (and-right (superAllowed N) (ltb t (fecBlocks * N)) q);
           long = right-length (p .1 .0 .0);
         }

@@ -17,11 +17,14 @@ use Rattle.scrambler.specs.Scrambler.{o}
 use Rattle.scrambler.proofs.Rule.{o-lt}
 use Rattle.line_order.specs.Order.{byteBy, groupSize, lineOrder}
 use Rattle.line_order.proofs.Groups.{group-laid}
-use Rattle.sizes.specs.Sizes.{elementBits, superElements, superBytes, groupWords}
+use Rattle.line_order.proofs.OrderLaws.{length-laid}
+use Rattle.sizes.specs.Sizes.{elementBits, superElements, superBytes, groupWords, captureLength}
+use Rattle.line.specs.Fec.{fecBit}
 use Rattle.line.specs.Frames.{superOf, elementOf}
 use Rattle.line.specs.Slots.{elementIn, holds, slotBit}
 use Rattle.line.specs.Words.{wordsOf}
 use Rattle.line.proofs.SlotLaws.{filler-bit, held-bit}
+use Rattle.coder.specs.Code.{captureOf}
 use Rattle.coder.specs.Steps.{Agree, plainBit, entry}
 
 -- ---- words
@@ -30,6 +33,11 @@ pub word-filler : (N : ℕ) (F : ℕ → ℕ → ℕ) (w : ℕ) → holds N w �
 unfolding wordsOf
 word-filler N F w h =
     sym (coded-ext (slotBit N (elementOf (superOf F)) w) (λ i. 0) (λ i l. filler-bit N (elementOf (superOf F)) w i h) ∙ coded-zero)
+
+-- a coded capture has its length
+pub capture-long : (N m0 : ℕ) (info par : List ℕ) → length (captureOf N m0 info par) ≡ captureLength N
+unfolding captureOf
+capture-long N m0 info par = length-laid N (wordsOf N (fecBit m0 info par))
 
 -- the mask of element e: its part of the scrambler's sequence
 mask-bit : (sequence mask : List ℕ) (e i : ℕ) → sequence ≡ pack superBytes o → mask ≡ pack 16 (from (bitAt sequence) (elementBits * (e % superElements)))

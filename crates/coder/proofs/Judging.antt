@@ -13,6 +13,7 @@ use Rattle.answer.specs.declared.Answer.{Answer}
 use Rattle.answer.proofs.Table.{exactly, demand-1}
 use Rattle.answer.proofs.Turns.{in-turn, passed, right-length}
 use Rattle.sizes.specs.Sizes.{words}
+use Rattle.line.specs.Fec.{mbasAllowed}
 use Rattle.line.proofs.CaptureLaws.{frames-in}
 use Rattle.coder.specs.Code.{captureOf, codeRows, codeAnswer, codeLeaves}
 use Rattle.coder.specs.Steps.{Granted}
@@ -40,7 +41,7 @@ module _ (N m0 : ℕ) (info par cap : List ℕ) where
   granted e z =
       let p = passed rows (done (words N)) (code-rise N m0 (length info) (length par) (length cap)) (e ∙ in-turn rows (words N)) z in
       record {
-        few = frames-in N m0 (p .0) .few;
+        few = frames-in N (mbasAllowed m0) refl (p .0) .few;
         information = right-length (p .1 .0 .0);
         parity = right-length (p .1 .0 .1 .0);
         capture = right-length

@@ -4,7 +4,7 @@ use mathlib.Core.Path.{_≡_, sym, ap, _∙_}
 use mathlib.Core.List.{List}
 use native.Mathlib.Nat.{add-assoc}
 use native.Mathlib.Omega.{arith}
-use lib.ListN.{length, take, drop, replicate, length-take, length-drop, List·getD-eq-default}
+use lib.ListN.{length, take, drop, replicate, length-take, List·getD-eq-default}
 use lib.Seq.{getD-take, getD-drop}
 use Rattle.bits.specs.Bits.{bitAt, pack, from, Bits, Bytes}
 use Rattle.bits.proofs.Packing.{bitOf-lt, bitOf-packs, bitOf-part, bitOf-zeros}

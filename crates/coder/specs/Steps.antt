@@ -1,5 +1,5 @@
 -- The steps on the way from an element to its word, as the code takes them. Assumes nothing: these are definitions.
-use Prim.Native.Nat.{ℕ, _+_, _-_, _*_, _/_, _%_, _<_}
+use Prim.Native.Nat.{ℕ, _+_, _-_, _*_, _/_, _%_, _≤_, _<_}
 use mathlib.Core.Bool.{cond}
 use mathlib.Core.Path.{_≡_}
 use mathlib.Core.List.{List}
@@ -10,6 +10,7 @@ use Rattle.matrix.specs.Steps.{tailTable}
 use Rattle.lent.specs.Steps.{byteTable}
 use Rattle.scrambler.specs.Scrambler.{o}
 use Rattle.sizes.specs.Sizes.{crcBits, mbasBits, fecBlocks, elementBits, superElements, superBytes, infoLength, parityLength, captureLength}
+use Rattle.sizes.specs.Sizes.{mostFrames}
 use Rattle.line.specs.Fec.{blockCrc}
 use Rattle.line.specs.Frames.{superOf}
 
@@ -39,14 +40,14 @@ pub record Crcs (N : ℕ) (info crcs : List ℕ) : Type 0 where
 
 -- what a granted call has shown of its numbers and buffers
 pub record Granted (N : ℕ) (info par cap : List ℕ) : Type 0 where
-  pub few : N < 9
+  pub few : N ≤ mostFrames
   pub information : length info ≡ infoLength N
   pub parity : length par ≡ parityLength N
   pub capture : length cap ≡ captureLength N
 
 -- the same, with the tables that every word needs
 pub record Ready (N : ℕ) (info par crcs sequence table tails : List ℕ) : Type 0 where
-  pub few : N < 9
+  pub few : N ≤ mostFrames
   pub blocks : Crcs N info crcs
   pub scrambles : sequence ≡ pack superBytes o
   pub checks : table ≡ byteTable

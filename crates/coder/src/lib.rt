@@ -7,7 +7,7 @@ ghost use Rattle.bits.specs.Bits.{tabulate, bitAt, byteOf, pack, from};
 ghost use Rattle.answer.specs.Outcomes.{Outcome};
 ghost use Rattle.answer.specs.Rows.{answerOf};
 ghost use Rattle.crc.specs.Steps.{entries};
-ghost use Rattle.sizes.specs.Sizes.{infoBytes, fecBlocks, superElements, infoLength, captureLength, words};
+ghost use Rattle.sizes.specs.Sizes.{infoBytes, fecBlocks, superElements, infoLength, captureLength, words, mostFrames};
 ghost use Rattle.line.specs.Fec.{fecBit, blockCrc};
 ghost use Rattle.line.specs.Words.{wordsOf};
 ghost use Rattle.coder.specs.Code.{captureOf, codeRows, codeAnswer, codeLeaves};
@@ -80,7 +80,7 @@ fn code_all(n: usize, m0: u64, info: &[u8], parity: &[u8], capture: &mut [u8])
 
 // The CRCs of the FEC blocks, at most forty.
 fn block_crcs(n: usize, info: &[u8]) -> [u32; MOST_BLOCKS]
-    requires { ⌜ (n < 9) × (length (now info) ≡ infoLength n) ⌝ }
+    requires { ⌜ (n ≤ mostFrames) × (length (now info) ≡ infoLength n) ⌝ }
     ensures { λ r. ⌜ Crcs n (now (info .entry)) r ⌝ }
 {
     let table = crc::table();
@@ -190,7 +190,7 @@ fn plain_element(
     crcs: &[u32; MOST_BLOCKS],
     e: usize,
 ) -> [u8; 16]
-    requires { ⌜ (n < 9) × Crcs n (now info) (now crcs) × (e < superElements * n) ⌝ }
+    requires { ⌜ (n ≤ mostFrames) × Crcs n (now info) (now crcs) × (e < superElements * n) ⌝ }
     ensures { λ r. ⌜ Agree (bitAt r) (plainBit (fecBit m0 (now (info .entry)) (now (parity .entry))) e) ⌝ }
 {
     let l = e % sizes::SUPER_ELEMENTS;

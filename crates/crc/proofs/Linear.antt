@@ -3,7 +3,7 @@
 -- Assumes nothing.
 use Prim.Native.Nat.{ℕ, zero, suc, _+_, _-_, _*_, _/_, _%_, _^_, _<_}
 use mathlib.Core.Path.{_≡_, refl, sym, ap, ap₂, _∙_}
-use native.Mathlib.Nat.{zero-mul, one-mul, add-zero, add-suc, pow-suc, lt-suc-self, lt-trans, mod-lt, mod-eq-of-lt, mul-div-mul-right, div-lt-iff-lt-mul}
+use native.Mathlib.Nat.{add-zero, add-suc, pow-suc, lt-suc-self, lt-trans, mod-lt, mod-eq-of-lt, mul-div-mul-right, div-lt-iff-lt-mul}
 use native.Mathlib.Numerals.{add-one}
 use native.Mathlib.Omega.{arith}
 use lib.Bits.{bitXor, xor-zero-r, xor-self, xor-lt}

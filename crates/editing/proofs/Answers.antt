@@ -9,7 +9,7 @@ use lib.Dec.{ltb, eqb}
 use lib.ListN.{length, getD}
 use Rattle.bits.specs.Bits.{num, bitAt}
 use Rattle.bits.specs.Loops.{first, count}
-use Rattle.bits.proofs.Common.{and-left, and-right}
+use Rattle.bits.proofs.Common.{and-right}
 use Rattle.bits.proofs.Numbers.{num-back}
 use Rattle.bits.proofs.Packing.{bitOf-lt, num-bitOf}
 use Rattle.answer.specs.Numbers.{allDone, listedFails}
@@ -23,7 +23,7 @@ use Rattle.answer.proofs.Turns.{in-turn, passed, early-refused, early-passed, r
 use Rattle.answer.proofs.Meets.{meets-done, meets-refused}
 use Rattle.sizes.specs.Sizes.{words, blocksOf}
 use Rattle.line.specs.Captures.{superAllowed}
-use Rattle.line.proofs.CaptureLaws.{super-frames, all-frames}
+use Rattle.line.proofs.CaptureLaws.{frames-in, all-frames}
 use Rattle.editing.specs.Edit.{listed, spareSet, fails, editEarlyRows, editLateRows, editRows, editAnswer, edited, editLeaves}
 use Rattle.editing.specs.Steps.{Accepted, Passing}
 use Rattle.editing.proofs.Passes.{passing-capture, passing-list}
@@ -76,11 +76,11 @@ module _ (N b : ℕ) (bits parity cap list : List ℕ) where
     accepted z =
         let t = passed early (done 0) (early-rise N b (length bits) (length parity) (length cap) (length list) (spareSet bits)) judged z in
         let q = not-false (superAllowed N && ltb b (blocksOf N)) (t .0) in
-        let f = super-frames N (and-left (superAllowed N) (ltb b (blocksOf N)) q) in
+        let f = frames-in N (ltb b (blocksOf N)) refl (t .0) in
         let w = t .1 .0 in
         record {
           some = f .some;
-          few = omega (arith, f .few);
+          few = f .few;
           block = ltb-true b (blocksOf N) (and-right (superAllowed N) (ltb b (blocksOf N)) q);
           bits-long = right-length (w .0);
           parity-long = right-length (w .1 .0);

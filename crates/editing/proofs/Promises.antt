@@ -1,11 +1,11 @@
 -- What an edit promises: which words are listed, and how many; what every word holds afterwards.
 -- Assumes nothing.
-use Prim.Native.Nat.{ℕ, _+_, _-_, _*_, _/_, _≤_, _<_}
+use Prim.Native.Nat.{ℕ, _+_, _-_, _*_, _/_, _<_}
 use mathlib.Core.Bool.{true, false}
-use mathlib.Core.Path.{_≡_, refl, sym, ap, _∙_}
+use mathlib.Core.Path.{_≡_, sym, ap, _∙_}
 use mathlib.Core.List.{List}
 use native.Mathlib.Omega.{arith}
-use lib.ListN.{length, getD}
+use lib.ListN.{getD}
 use Rattle.bits.specs.Loops.{count}
 use Rattle.bits.proofs.Common.{by-bound}
 use Rattle.sizes.specs.Sizes.{elementBits, fecElements, infoElements, captureLength, words, blocksOf}

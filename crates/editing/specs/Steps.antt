@@ -12,7 +12,7 @@ use Rattle.matrix.specs.Steps.{tailTable}
 use Rattle.line_order.specs.Steps.{doneTo, putWord}
 use Rattle.lent.specs.Steps.{byteTable}
 use Rattle.sizes.specs.Sizes.{crcBits, parityFrom, parityBytes, fecBlocks, elementBits, superElements, fecElements, captureLength, longestWait, blocksOf}
-use Rattle.sizes.specs.Sizes.{blockBytes, listLength}
+use Rattle.sizes.specs.Sizes.{blockBytes, listLength, mostFrames}
 use Rattle.line.specs.Fec.{fields}
 use Rattle.line.specs.Slots.{elementIn}
 use Rattle.line_order.specs.Order.{laid, wordIn}
@@ -21,7 +21,7 @@ use Rattle.editing.specs.Edit.{fecOf, inBlock, blockFrom, elementLocal, 
 -- ---- what a call has shown that none of the numbers 1 to 3 refuses
 pub record Accepted (N b : ℕ) (bits parity cap list : List ℕ) : Type 0 where
   pub some : 1 ≤ N
-  pub few : N ≤ 8
+  pub few : N ≤ mostFrames
   pub block : b < blocksOf N
   pub bits-long : length bits ≡ blockBytes
   pub parity-long : length parity ≡ parityBytes

@@ -12,7 +12,7 @@ ghost use Rattle.answer.specs.Rows.{answerOf};
 ghost use Rattle.hamming.specs.Code.{checksOf};
 ghost use Rattle.lent.specs.Steps.{byteTable};
 ghost use Rattle.sizes.specs.Sizes.{blockBits, fecBits, fecBlocks, elementBits, superElements, fecElements, infoElements, captureLength, words, blocksOf};
-ghost use Rattle.sizes.specs.Sizes.{listLength};
+ghost use Rattle.sizes.specs.Sizes.{listLength, mostFrames, wordBits};
 ghost use Rattle.line.specs.Slots.{elementIn};
 ghost use Rattle.line_order.specs.Order.{wordIn};
 ghost use Rattle.line.specs.Words.{fecIn};
@@ -98,7 +98,7 @@ fn holds_touched(b: usize, m: usize) -> bool
 
 // The first element of client block b's FEC block.
 fn first_element(b: usize) -> usize
-    requires { ⌜ b < blocksOf 8 ⌝ }
+    requires { ⌜ b < blocksOf mostFrames ⌝ }
     ensures { λ r. ⌜ r ≡ firstElement b ⌝ }
 {
     sizes::SUPER_ELEMENTS * (b / sizes::CLIENT_BLOCKS / sizes::FEC_BLOCKS)
@@ -107,7 +107,7 @@ fn first_element(b: usize) -> usize
 
 // Whether word w of n super frames is listed. Most words hold nothing that is touched, so that is asked before whether they are filler.
 fn is_listed(n: usize, b: usize, w: usize) -> bool
-    requires { ⌜ (b < blocksOf n) × (n ≤ 8) × (w < words n) ⌝ }
+    requires { ⌜ (b < blocksOf n) × (n ≤ mostFrames) × (w < words n) ⌝ }
     ensures { λ r. ⌜ r ≡ listed n b w ⌝ }
 {
     let e = line::element_in(w);
@@ -126,7 +126,7 @@ fn is_listed(n: usize, b: usize, w: usize) -> bool
 
 // No word before this one is listed: an element does not leave before its own number.
 fn stretch_from(b: usize) -> usize
-    requires { ⌜ b < blocksOf 8 ⌝ }
+    requires { ⌜ b < blocksOf mostFrames ⌝ }
     ensures { λ r. ⌜ r ≡ stretchFrom b ⌝ }
 {
     first_element(b) + sizes::BLOCK_BITS * (b % sizes::CLIENT_BLOCKS) / sizes::ELEMENT_BITS
@@ -134,7 +134,7 @@ fn stretch_from(b: usize) -> usize
 
 // Nor one from here on: none waits longer than 480 words.
 fn stretch_to(b: usize) -> usize
-    requires { ⌜ b < blocksOf 8 ⌝ }
+    requires { ⌜ b < blocksOf mostFrames ⌝ }
     ensures { λ r. ⌜ r ≡ stretchTo b ⌝ }
 {
     first_element(b) + STRETCH
@@ -152,7 +152,7 @@ fn fails_check(t: &[u16; 4096], capture: &[u8], w: usize) -> bool
 
 // Whether word w is to be listed and fails a check.
 fn is_refused(n: usize, b: usize, capture: &[u8], t: &[u16; 4096], w: usize) -> bool
-    requires { ⌜ (now t ≡ byteTable) × (b < blocksOf n) × (n ≤ 8) × (w < words n) ⌝ }
+    requires { ⌜ (now t ≡ byteTable) × (b < blocksOf n) × (n ≤ mostFrames) × (w < words n) ⌝ }
     ensures { λ r. ⌜ r ≡ fails n b (now (capture .entry)) w ⌝ }
 {
     if !is_listed(n, b, w) {
@@ -163,7 +163,7 @@ fn is_refused(n: usize, b: usize, capture: &[u8], t: &[u16; 4096], w: usize) -> 
 
 // The first such word, or the number of words.
 fn first_refused(n: usize, b: usize, capture: &[u8], t: &[u16; 4096]) -> usize
-    requires { ⌜ (n ≤ 8) × (b < blocksOf n) × (now t ≡ byteTable) ⌝ }
+    requires { ⌜ (n ≤ mostFrames) × (b < blocksOf n) × (now t ≡ byteTable) ⌝ }
     ensures { λ r. ⌜ r ≡ first (fails n b (now (capture .entry))) (words n) ⌝ }
 {
     for w in stretch_from(b)..stretch_to(b) {
@@ -185,7 +185,7 @@ fn add(x: u8, y: u8) -> u8
 
 // Bit j of word w of a capture.
 fn word_bit(capture: &[u8], w: usize, j: usize) -> u8
-    requires { ⌜ (w < words 8) × (j < 128) ⌝ }
+    requires { ⌜ (w < words mostFrames) × (j < wordBits) ⌝ }
     ensures { λ r. ⌜ r ≡ bitAt (wordIn (now (capture .entry)) w) j ⌝ }
 {
     bits::bit_at(
@@ -211,7 +211,7 @@ fn received_bit(capture: &[u8], scr: &[u8; PERIOD_BYTES], t: usize, i: usize) ->
 
 // Bit j of client block b's change: what was received, and what replaces it.
 fn changed_bit(b: usize, bits: &[u8], capture: &[u8], scr: &[u8; PERIOD_BYTES], j: usize) -> u8
-    requires { ⌜ (now scr ≡ onePeriod) × (b < blocksOf 8) × (j < blockBits) ⌝ }
+    requires { ⌜ (now scr ≡ onePeriod) × (b < blocksOf mostFrames) × (j < blockBits) ⌝ }
     ensures { λ r. ⌜ r ≡ change b (now (bits .entry)) (fecIn (wordIn (now (capture .entry))) (fecOf b)) (blockFrom b + j) ⌝ }
 {
     add(
@@ -227,7 +227,7 @@ fn changed_bit(b: usize, bits: &[u8], capture: &[u8], scr: &[u8; PERIOD_BYTES], 
 
 // What the changed bits leave: the change of the CRC. Before the block nothing changes, and what follows it only shifts.
 fn crc_change(b: usize, bits: &[u8], capture: &[u8], scr: &[u8; PERIOD_BYTES]) -> u32
-    requires { ⌜ (now scr ≡ onePeriod) × (b < blocksOf 8) ⌝ }
+    requires { ⌜ (now scr ≡ onePeriod) × (b < blocksOf mostFrames) ⌝ }
     ensures { λ r. ⌜ r ≡ crcChange b (now (bits .entry)) (fecIn (wordIn (now (capture .entry))) (fecOf b)) ⌝ }
 {
     let mut r: u32 = 0;
@@ -300,7 +300,7 @@ fn new_element_bit(
     old: &[u8],
     i: usize,
 ) -> u8
-    requires { ⌜ (now scr ≡ onePeriod) × (e % superElements < fecElements * fecBlocks) × (i < 128) ⌝ }
+    requires { ⌜ (now scr ≡ onePeriod) × (e % superElements < fecElements * fecBlocks) × (i < wordBits) ⌝ }
     ensures { λ r. ⌜ r ≡ newElement b (now (bits .entry)) (now (parity .entry)) crc e (now (old .entry)) i ⌝ }
 {
     let l = e % sizes::SUPER_ELEMENTS;
@@ -409,7 +409,7 @@ fn turn(
     capture: &mut [u8],
     list: &mut [u64],
 ) -> usize
-    requires { ⌜ (Lent (now scr) (now t) (now tails)) × (n ≤ 8) × (w < words n) × (length (now capture) ≡ captureLength n) × (c < length (now list))
+    requires { ⌜ (Lent (now scr) (now t) (now tails)) × (n ≤ mostFrames) × (w < words n) × (length (now capture) ≡ captureLength n) × (c < length (now list))
         × (b < blocksOf n) ⌝ }
     ensures { λ r. ⌜ Turned n b (now (bits .entry)) (now (parity .entry)) crc w c (now (capture .entry)) (now (list .entry)) (now (capture .exit))
         (now (list .exit)) r ⌝ }
@@ -437,7 +437,7 @@ fn rewrite(
     capture: &mut [u8],
     list: &mut [u64],
 ) -> usize
-    requires { ⌜ (Lent (now scr) (now t) (now tails)) × (n ≤ 8) × (b < blocksOf n) × (crc ≡ crcChange b (now bits) (fecIn (wordIn (now capture)) (fecOf b)))
+    requires { ⌜ (Lent (now scr) (now t) (now tails)) × (n ≤ mostFrames) × (b < blocksOf n) × (crc ≡ crcChange b (now bits) (fecIn (wordIn (now capture)) (fecOf b)))
         × (length (now capture) ≡ captureLength n) × (length (now list) ≡ listLength) ⌝ }
     ensures { λ r. ⌜ Passing n b (now (bits .entry)) (now (parity .entry)) (now (capture .entry)) (now (list .entry)) (words n) (now (capture .exit))
         (now (list .exit)) r ⌝ }

@@ -1,9 +1,9 @@
 -- "given exactly when": what `runs` and `run` answer is exactly what their table says. Assumes nothing.
 use Prim.Native.Nat.{ℕ}
 use mathlib.Core.Bool.{Bool, true, false, cond}
-use mathlib.Core.Path.{_≡_, refl, _∙_}
+use mathlib.Core.Path.{_≡_, refl}
 use Rattle.answer.specs.Numbers.{allDone, outsideSet}
-use Rattle.answer.specs.Rows.{done, refused, answerOf, rising, rowNumber}
+use Rattle.answer.specs.Rows.{done, refused, rising, rowNumber}
 use Rattle.answer.specs.Demand1.{Exactly}
 use Rattle.answer.specs.Steps.{inTurn, rowThen}
 use Rattle.answer.specs.declared.Answer.{Answer}

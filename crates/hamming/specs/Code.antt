@@ -1,6 +1,6 @@
 -- The (128, 119) code of 001 section 10.5: a word is sixteen bytes, whose first 119 bits are the element's and whose last nine make all
 -- nine checks zero. Assumes nothing: these are definitions.
-use Prim.Native.Nat.{ℕ, _-_, _*_, _/_, _%_, _^_}
+use Prim.Native.Nat.{ℕ, _-_, _/_, _%_, _^_}
 use mathlib.Core.Bool.{cond}
 use mathlib.Core.List.{List}
 use lib.Bits.{bitXor}

@@ -6,17 +6,18 @@ use mathlib.Core.List.{List}
 use native.Mathlib.Nat.{zero-div}
 use native.Mathlib.Decide.{ℕ-discrete}
 use native.Mathlib.Omega.{arith}
-use borrow.Author.Tests.{ltb-true, ltb-false, eq-eqb, ne-eqb, eqb-true, not-false}
+use borrow.Author.Tests.{ltb-true, ltb-false, eq-eqb, eqb-true, not-false}
 use lib.Dec.{ltb, eqb}
 use lib.ListN.{length}
 use Rattle.bits.specs.Bits.{num, digit, bitAt, pack, Bits, Bytes}
 use Rattle.bits.proofs.Numbers.{digit-num}
 use Rattle.bits.proofs.Packing.{bitOf-lt, bitOf-packs, packs-bitOf, packs-ext, length-packs}
 use Rattle.answer.specs.Numbers.{allDone}
-use Rattle.answer.specs.Outcomes.{Outcome, written}
+use Rattle.answer.specs.Outcomes.{Outcome}
 use Rattle.answer.specs.Steps.{inTurn, rowThen, faultsThen}
 use Rattle.answer.specs.declared.Answer.{Answer}
 use Rattle.answer.proofs.Turns.{in-turn, length-right}
+use Rattle.answer.proofs.Meets.{written-done, written-refused, stops-there, goes-further}
 use Rattle.gmp.specs.Places.{isData, dataFrom}
 use Rattle.windows.specs.Windows.{Window, spareSet}
 use Rattle.mapping.specs.Groups.{windowBit, groupPlace, groupsBit}
@@ -116,16 +117,18 @@ module _ (c f n : ℕ) (g w b : List ℕ) (bytes : Bytes g) where
   abbrev mapping : Answer
   mapping = mapAnswer c f n g (length w)
 
+  abbrev mapped : List ℕ
+  mapped = pack (windowBytes n) (windowBit c f g)
+
   pub round-trip : {r : Answer} {left : List ℕ × List ℕ} → MapUnmap c f n g w b r left
       → Outcome (mapUnmapAnswer c f n g w b) (mapUnmapLeaves c f n g w b) r left
-  unfolding mapUnmapAnswer mapUnmapLeaves written
-  round-trip {r} (refused-first m h) =
-      let e : eqb (mapping .number) allDone ≡ false = ne-eqb (mapping .number) allDone (λ z. h (ap (λ (x : Answer). x .number) (m .told) ∙ z)) in
-      record { told = rw e (m .told); kept = rw e (ap (λ (x : List ℕ). (x, b)) (rw e at (m .kept))) }
+  unfolding mapUnmapAnswer mapUnmapLeaves
+  round-trip (refused-first m h) =
+      let n : mapping .number ≡ allDone → ⊥ = λ z. h (ap (λ (x : Answer). x .number) (m .told) ∙ z) in
+      stops-there (m .told) h (ap (λ (x : List ℕ). (x, b)) (m .kept ∙ written-refused mapping mapped w n))
   round-trip (went-on {m} {r} {out} {back} p z u) =
       let t = map-taken c f n g (length w) (p .told) z in
-      let e : eqb (mapping .number) allDone ≡ true = eq-eqb (mapping .number) allDone (ap (λ (x : Answer). x .number) (sym (p .told)) ∙ z) in
-      let made : out ≡ pack (windowBytes n) (windowBit c f g) = rw e at (p .kept) in
+      let made : out ≡ mapped = p .kept ∙ written-done mapping mapped w (ap (λ (x : Answer). x .number) (sym (p .told)) ∙ z) in
       let says = back-answer c f n g b out t (ap length made ∙ length-packs 8 (windowBytes n) (windowBit c f g)) in
       let same = back-bytes c f n g (t .window) (t .spare) bytes (t .groups-length) in
-      record { told = rw e (u .told ∙ says); kept = rw (e, u .kept, says, made, same) }
+      goes-further (p .told) z (record { told = u .told ∙ says; kept = rw (u .kept, says, made, same) })

@@ -4,11 +4,10 @@
 use Prim.Native.Nat.{ℕ}
 use mathlib.Core.Bool.{cond}
 use mathlib.Core.List.{List}
-use lib.Dec.{eqb}
 use lib.ListN.{length}
 use Rattle.bits.specs.Bits.{pack}
-use Rattle.answer.specs.Numbers.{allDone, wrongLength}
-use Rattle.answer.specs.Outcomes.{written}
+use Rattle.answer.specs.Numbers.{wrongLength}
+use Rattle.answer.specs.Outcomes.{written, andThen}
 use Rattle.answer.specs.Rows.{done, refused, wrong, bufferPlace}
 use Rattle.answer.specs.declared.Answer.{Answer}
 use Rattle.gmp.specs.Places.{dataFrom}
@@ -22,8 +21,7 @@ backAnswer c f n g b = cond (wrong (length g) (length b)) (refused wrongLength (
 
 -- the answer: of mapping where that is refused, and else of unmapping
 unfoldable pub mapUnmapAnswer : ℕ → ℕ → ℕ → List ℕ → List ℕ → List ℕ → Answer
-mapUnmapAnswer c f n g w b =
-    cond (eqb (mapAnswer c f n g (length w) .number) allDone) (backAnswer c f n g b) (mapAnswer c f n g (length w))
+mapUnmapAnswer c f n g w b = andThen (mapAnswer c f n g (length w)) (backAnswer c f n g b)
 
 -- what is left in w and b: nothing is changed where mapping is refused; else w has the mapped bytes, and b the groups themselves, or what it had
 -- where it is refused

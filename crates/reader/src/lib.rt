@@ -17,7 +17,7 @@ ghost use Rattle.hamming.specs.Code.{checksOf};
 ghost use Rattle.matrix.specs.Steps.{positionTable};
 ghost use Rattle.lent.specs.Steps.{byteTable};
 ghost use Rattle.hamming.specs.Repair.{repairOf};
-ghost use Rattle.sizes.specs.Sizes.{infoBits, fecBits, fecBlocks, superBytes, infoLength, parityLength, words};
+ghost use Rattle.sizes.specs.Sizes.{infoBits, fecBits, fecBlocks, superBytes, infoLength, parityLength, words, mostFrames};
 ghost use Rattle.line.specs.Frames.{infoOf, parityOf};
 ghost use Rattle.line.specs.Slots.{slotOf, holds};
 ghost use Rattle.line_order.specs.Order.{wordIn};
@@ -199,7 +199,7 @@ fn take_word(
 
 // The pass over all words.
 fn tally_words(t: &[u16; 4096], positions: &[u8; 512], n: usize, capture: &[u8]) -> WordTally
-    requires { ⌜ Tables (now t) (now positions) × (n < 9) ⌝ }
+    requires { ⌜ Tables (now t) (now positions) × (n ≤ mostFrames) ⌝ }
     ensures { λ r. ⌜ r ≡ wordsTo n (now (capture .entry)) (words n) ⌝ }
 {
     let mut s = WordTally {
@@ -393,7 +393,7 @@ fn tally_frames(
     capture: &[u8],
     buffer: &mut [u8],
 ) -> BlockTally
-    requires { ⌜ Tables (now t) (now positions) × (now scr ≡ sequence) × (n < 9) × (length (now buffer) ≡ superBytes) ⌝ }
+    requires { ⌜ Tables (now t) (now positions) × (now scr ≡ sequence) × (n ≤ mostFrames) × (length (now buffer) ≡ superBytes) ⌝ }
     ensures { λ r. ⌜ r ≡ framesTo m0 (now (capture .entry)) n ⌝ }
 {
     let crcs = crc::table();
@@ -439,7 +439,7 @@ fn write_frames(
     info: &mut [u8],
     parity: &mut [u8],
 )
-    requires { ⌜ Tables (now t) (now positions) × (now scr ≡ sequence) × (n < 9) × (length (now buffer) ≡ superBytes) × (length (now info) ≡ infoLength n)
+    requires { ⌜ Tables (now t) (now positions) × (now scr ≡ sequence) × (n ≤ mostFrames) × (length (now buffer) ≡ superBytes) × (length (now info) ≡ infoLength n)
         × (length (now parity) ≡ parityLength n) ⌝ }
     ensures { λ _. ⌜ (now (info .exit) ≡ infoOf n (fecIn (repaired (now (capture .entry)))))
         × (now (parity .exit) ≡ parityOf n (fecIn (repaired (now (capture .entry))))) ⌝ }

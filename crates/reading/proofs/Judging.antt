@@ -15,6 +15,7 @@ use Rattle.answer.proofs.Table.{exactly, demand-1}
 use Rattle.answer.proofs.Turns.{in-turn, passed, early-refused, early-passed, right-length}
 use Rattle.answer.proofs.Meets.{meets-done, meets-refused}
 use Rattle.sizes.specs.Sizes.{words}
+use Rattle.line.specs.Fec.{mbasAllowed}
 use Rattle.line.specs.Frames.{infoOf, parityOf}
 use Rattle.line.specs.Words.{fecIn}
 use Rattle.line.proofs.CaptureLaws.{frames-in}
@@ -66,7 +67,7 @@ module _ (N m0 : ℕ) (cap info par : List ℕ) where
     unfolding readEarlyRows Passed RowPassed NoFault
     accepted z =
         let p = shown z in
-        let f = frames-in N m0 (p .0) in
+        let f = frames-in N (mbasAllowed m0) refl (p .0) in
         let w = p .1 .0 in
         record {
           some = f .some;

@@ -1,6 +1,6 @@
 -- The parts in which the code reads a capture: what its private functions are asked and answer. The laws (`proofs/`) say that together
 -- they are `specs/Read`. Assumes nothing: these are definitions.
-use Prim.Native.Nat.{ℕ, _+_, _-_, _*_, _/_, _%_, _<_}
+use Prim.Native.Nat.{ℕ, _+_, _-_, _*_, _/_, _%_, _≤_, _<_}
 use mathlib.Core.Bool.{Bool, not, cond}
 use mathlib.Core.Path.{_≡_}
 use mathlib.Core.List.{List}
@@ -19,7 +19,7 @@ use Rattle.hamming.specs.Code.{joinedWord}
 use Rattle.matrix.specs.Steps.{positionTable}
 use Rattle.lent.specs.Steps.{byteTable}
 use Rattle.sizes.specs.Sizes.{infoBits, crcBits, mbasBits, parityBits, mbasFrom, parityFrom, fecBits, fecBlocks, padFrom, padBits, superBytes, infoLength}
-use Rattle.sizes.specs.Sizes.{parityLength, captureLength, words}
+use Rattle.sizes.specs.Sizes.{parityLength, captureLength, words, mostFrames}
 use Rattle.line.specs.Fec.{mbasOf}
 use Rattle.line.specs.Frames.{infoOf, parityOf}
 use Rattle.line.specs.Words.{superIn, fecIn}
@@ -30,7 +30,7 @@ use Rattle.reading.specs.declared.BlockTally.{BlockTally}
 -- ---- what `judge` has shown where it gives neither number 1 nor 2
 pub record Accepted (N : ℕ) (cap info par : List ℕ) : Type 0 where
   pub some : 0 < N
-  pub few : N < 9
+  pub few : N ≤ mostFrames
   pub capture : length cap ≡ captureLength N
   pub information : length info ≡ infoLength N
   pub parity : length par ≡ parityLength N

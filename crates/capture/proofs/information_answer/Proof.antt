@@ -1,29 +1,17 @@
 -- `capture::information_answer` meets its contract: the tests in turn are the table. Assumes nothing.
-use Prim.Native.Nat.{_*_, _<_}
-use mathlib.Core.Bool.{false, not, _&&_}
-use mathlib.Core.Path.{_≡_, sym, ap, _∙_}
+use Prim.Native.Nat.{_≤_}
 use native.Mathlib.Omega.{arith}
-use borrow.Author.Tests.{not-false}
-use lib.Dec.{ltb}
-use Rattle.bits.proofs.Common.{and-left}
 use Rattle.answer.specs.Steps.{faultsThen, rowThen, inTurn}
 use Rattle.answer.proofs.Turns.{in-turn}
-use Rattle.sizes.specs.Sizes.{fecBlocks}
-use Rattle.line.specs.Captures.{superAllowed}
-use Rattle.line.proofs.CaptureLaws.{super-frames}
+use Rattle.sizes.specs.Sizes.{mostFrames}
+use Rattle.line.proofs.CaptureLaws.{frames-in}
 use Rattle.capture.specs.Part.{partRows, partAnswer}
 use borrow.Author.Needs.{needs}
 use Rattle.capture.proofs.information_answer.Statement.{statement}
 use Rattle.capture.proofs.information_answer.Tie as tie
 
-inside : (c : tie.Else1) → let a = c .before .before .before .args in not (superAllowed (a .n) && ltb (a .t) (fecBlocks * a .n)) ≡ false
-inside c = ap not (sym (c .before .one-of .ensures)) ∙ c .if1 .left
-
-few : (c : tie.Else1) → c .before .before .before .args .n < 9
-few c =
-    let a = c .before .before .before .args in
-    let outside = superAllowed (a .n) && ltb (a .t) (fecBlocks * a .n) in
-    super-frames (a .n) (and-left (superAllowed (a .n)) (ltb (a .t) (fecBlocks * a .n)) (not-false outside (inside c))) .few
+few : (c : tie.Else1) → c .before .before .before .args .n ≤ mostFrames
+few c = frames-in _ _ (c .before .one-of .ensures) (c .if1 .left) .few
 
 cast-one-of : tie.Need-cast-one-of
 cast-one-of c = search needs
@@ -49,7 +37,7 @@ refuse-length-requires c κs = search needs
 
 returns-2 : tie.Need-returns-2
 unfolding partAnswer partRows inTurn rowThen faultsThen
-returns-2 c = rw (in-turn, inside (c .before .before), c .refuse-length .ensures, c .before .granted .ensures)
+returns-2 c = rw (in-turn, ← (c .before .before .before .one-of .ensures), c .before .before .if1 .left, c .refuse-length .ensures, c .before .granted .ensures)
 
 pub information-answer-spec : {M : Type 1} → statement M
 information-answer-spec =

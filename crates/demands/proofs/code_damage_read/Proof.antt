@@ -1,6 +1,6 @@
 -- `demands::code_damage_read` meets its contract, demand 2. Assumes nothing.
 use denote.Ref.{now}
-use Rattle.demands.proofs.Facts.{coded-now, reads-back}
+use Rattle.demands.proofs.Facts.{read-stops, read-follows}
 use borrow.Author.Needs.{needs}
 use Rattle.demands.proofs.code_damage_read.Statement.{statement}
 use Rattle.demands.proofs.code_damage_read.Tie as tie
@@ -12,10 +12,11 @@ same-length : tie.Need-same-length
 same-length c = search needs
 
 returns : tie.Need-returns
-returns c = λ input long i₀ p₀.
+returns c =
     let k = c .before .before .before .before in
     let a = k .before .before .before .before .before .before .before .before .args in
-    absurd (c .if1 .taken (coded-now (a .n) (a .m0) (now (a .info)) (now (a .parity)) (now (a .capture)) input long (k .code .ensures) .granted))
+    read-stops (a .n) (a .m0) (now (a .info)) (now (a .parity)) (now (a .capture)) (k .code .ensures) (now (a .flips)) (now (a .back)) (now (a .parity-back))
+    (c .if1 .taken)
 
 damage-requires : tie.Need-damage-requires
 damage-requires c κs = search needs
@@ -34,16 +35,12 @@ same-length-4 c = search needs
 
 returns-2 : tie.Need-returns-2
 returns-2 c =
-    let at-before = c .before .before .before in
-    λ input long i₀ p₀.
-    let r = at-before .before in
+    let r = c .before .before .before .before in
     let d = r .before .before .before .before .before .before in
     let k = d .before .before .before .before .before .before in
     let a = k .before .before .before .before .before .before .before .before .args in
-    let coded = coded-now (a .n) (a .m0) (now (a .info)) (now (a .parity)) (now (a .capture)) input long (k .code .ensures) .capture in
-    reads-back (a .n) (a .m0) (now (a .info)) (now (a .parity)) (now (a .flips)) _ _ (now (a .back)) (now (a .parity-back)) input coded
-    (d .damage .ensures) i₀ p₀
-    (r .read .ensures)
+    read-follows (a .n) (a .m0) (now (a .info)) (now (a .parity)) (now (a .capture)) (k .code .ensures) (now (a .flips)) (now (a .back)) (now (a .parity-back))
+    ? ? ? (d .damage .ensures) (r .read .ensures)
 
 pub code-damage-read-spec : {M : Type 1} → statement M
 code-damage-read-spec =

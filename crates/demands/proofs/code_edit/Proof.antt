@@ -1,6 +1,6 @@
 -- `demands::code_edit` meets its contract, demand 3. Assumes nothing.
 use denote.Ref.{now}
-use Rattle.demands.proofs.Facts.{coded-now, edits-as-coded}
+use Rattle.demands.proofs.Facts.{edit-stops, edit-follows}
 use borrow.Author.Needs.{needs}
 use Rattle.demands.proofs.code_edit.Statement.{statement}
 use Rattle.demands.proofs.code_edit.Tie as tie
@@ -12,10 +12,11 @@ same-length : tie.Need-same-length
 same-length c = search needs
 
 returns : tie.Need-returns
-returns c = λ input long e.
+returns c =
     let k = c .before .before .before .before in
     let a = k .before .before .before .before .before .before .before .before .args in
-    absurd (c .if1 .taken (coded-now (a .n) (a .m0) (now (a .info)) (now (a .parity)) (now (a .capture)) input long (k .code .ensures) .granted))
+    edit-stops (a .n) (a .m0) (now (a .info)) (now (a .parity)) (now (a .capture)) (k .code .ensures) (a .block) (now (a .bits)) (now (a .new-parity)) (now (a .list))
+    (c .if1 .taken)
 
 edit-requires : tie.Need-edit-requires
 edit-requires c κs = search needs
@@ -28,14 +29,11 @@ same-length-3 c = search needs
 
 returns-2 : tie.Need-returns-2
 returns-2 c =
-    let at-before = c .before .before .before in
-    λ input long e.
-    let d = at-before .before in
+    let d = c .before .before .before .before in
     let k = d .before .before .before .before .before .before .before in
     let a = k .before .before .before .before .before .before .before .before .args in
-    let coded = coded-now (a .n) (a .m0) (now (a .info)) (now (a .parity)) (now (a .capture)) input long (k .code .ensures) .capture in
-    edits-as-coded (a .n) (a .m0) (a .block) (now (a .info)) (now (a .parity)) (now (a .bits)) (now (a .new-parity)) _ (now (a .list)) coded e
-    (d .edit .ensures)
+    edit-follows (a .n) (a .m0) (now (a .info)) (now (a .parity)) (now (a .capture)) (k .code .ensures) (a .block) (now (a .bits)) (now (a .new-parity)) (now (a .list))
+    ? (d .edit .ensures)
 
 pub code-edit-spec : {M : Type 1} → statement M
 code-edit-spec =

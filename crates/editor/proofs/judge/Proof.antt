@@ -1,29 +1,17 @@
 -- `editor::judge` meets its contract: the tests in turn are the table. Assumes nothing.
-use Prim.Native.Nat.{_<_}
-use mathlib.Core.Bool.{false, not, _&&_}
-use mathlib.Core.Path.{_≡_, sym, ap, _∙_}
+use Prim.Native.Nat.{_≤_}
 use native.Mathlib.Omega.{arith}
-use borrow.Author.Tests.{not-false}
-use lib.Dec.{ltb}
-use Rattle.bits.proofs.Common.{and-left}
 use Rattle.answer.specs.Steps.{faultsThen, rowThen, inTurn}
 use Rattle.answer.proofs.Turns.{in-turn}
-use Rattle.sizes.specs.Sizes.{blocksOf}
-use Rattle.line.specs.Captures.{superAllowed}
-use Rattle.line.proofs.CaptureLaws.{super-frames}
+use Rattle.sizes.specs.Sizes.{mostFrames}
+use Rattle.line.proofs.CaptureLaws.{frames-in}
 use Rattle.editing.specs.Edit.{editEarlyRows}
 use borrow.Author.Needs.{needs}
 use Rattle.editor.proofs.judge.Statement.{statement}
 use Rattle.editor.proofs.judge.Tie as tie
 
-inside : (c : tie.Else1) → let a = c .before .before .args in not (superAllowed (a .n) && ltb (a .block) (blocksOf (a .n))) ≡ false
-inside c = ap not (sym (c .before .one-of .ensures)) ∙ c .if1 .left
-
-few : (c : tie.Else1) → c .before .before .args .n < 9
-few c =
-    let a = c .before .before .args in
-    super-frames (a .n) (and-left (superAllowed (a .n)) (ltb (a .block) (blocksOf (a .n)))
-    (not-false (superAllowed (a .n) && ltb (a .block) (blocksOf (a .n))) (inside c))) .few
+few : (c : tie.Else1) → c .before .before .args .n ≤ mostFrames
+few c = frames-in _ _ (c .before .one-of .ensures) (c .if1 .left) .few
 
 cast-one-of : tie.Need-cast-one-of
 cast-one-of c = search needs
@@ -71,7 +59,7 @@ returns-2 c =
     let l = c .before .before .before in
     let s = l .before in
     let g = s .before .before in
-    rw (in-turn, inside (g .before), c .refuse-length4 .ensures, c .before .refuse-length3 .ensures, c .before .before .refuse-length2 .ensures)
+    rw (in-turn, ← (g .before .before .one-of .ensures), g .before .if1 .left, c .refuse-length4 .ensures, c .before .refuse-length3 .ensures, c .before .before .refuse-length2 .ensures)
     (rw (l .refuse-length .ensures, s .refuse-if .ensures, s .before .buffer-place .ensures, g .granted .ensures))
 
 pub judge-spec : {M : Type 1} → statement M

@@ -15,7 +15,7 @@ mul-result : tie.Need-mul-result
 mul-result c =
     let s = c .before in
     let a = s .before .args in
-    let few : a .n ≤ 8 = omega (arith, super-frames (a .n) (sym (s .super-allowed .ensures) ∙ c .if1 .taken)) in
+    let few = super-frames (a .n) (sym (s .super-allowed .ensures) ∙ c .if1 .taken) .few in
     let small : a .each ≤ 4294967295 = omega arith in
     omega (arith, mul-le-mul small few)
 

@@ -1,23 +1,17 @@
 -- `reading::judge` meets its contract: the tests in turn are the table. Assumes nothing.
-use Prim.Native.Nat.{_<_}
-use mathlib.Core.Bool.{false, not, _&&_}
-use mathlib.Core.Path.{_≡_, sym, ap, _∙_}
+use Prim.Native.Nat.{_≤_}
 use native.Mathlib.Omega.{arith}
 use Rattle.answer.specs.Steps.{faultsThen, rowThen, inTurn}
 use Rattle.answer.proofs.Turns.{in-turn}
-use Rattle.line.specs.Captures.{superAllowed}
-use Rattle.line.specs.Fec.{mbasAllowed}
+use Rattle.sizes.specs.Sizes.{mostFrames}
 use Rattle.line.proofs.CaptureLaws.{frames-in}
 use Rattle.reading.specs.Read.{readEarlyRows}
 use borrow.Author.Needs.{needs}
 use Rattle.reading.proofs.judge.Statement.{statement}
 use Rattle.reading.proofs.judge.Tie as tie
 
-inside : (c : tie.Else1) → not (superAllowed (c .before .before .args .n) && mbasAllowed (c .before .before .args .m0)) ≡ false
-inside c = ap not (sym (c .before .numbers-allowed .ensures)) ∙ c .if1 .left
-
-few : (c : tie.Else1) → c .before .before .args .n < 9
-few c = frames-in _ _ (inside c) .few
+few : (c : tie.Else1) → c .before .before .args .n ≤ mostFrames
+few c = frames-in _ _ (c .before .numbers-allowed .ensures) (c .if1 .left) .few
 
 numbers-allowed-requires : tie.Need-numbers-allowed-requires
 numbers-allowed-requires c κs = search needs
@@ -58,7 +52,7 @@ unfolding readEarlyRows inTurn rowThen faultsThen
 returns-2 c =
     let at-before = c .before .before in
     let g = at-before .before in
-    rw (in-turn, inside (g .before), c .refuse-length3 .ensures, c .before .refuse-length2 .ensures, at-before .refuse-length .ensures, g .granted .ensures)
+    rw (in-turn, ← (g .before .before .numbers-allowed .ensures), g .before .if1 .left, c .refuse-length3 .ensures, c .before .refuse-length2 .ensures, at-before .refuse-length .ensures, g .granted .ensures)
 
 pub judge-spec : {M : Type 1} → statement M
 judge-spec =
