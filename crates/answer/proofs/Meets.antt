@@ -28,15 +28,14 @@ meets-refused {B} {says} {r} {old} new e h =
     record { told = e; kept = sym (written-refused says new old (λ z. h (ap (λ (x : Answer). x .number) e ∙ z))) }
 
 -- two calls in a row: the first is refused, and lent memory is as it was; or it is done, and the second answers and decides what is left
-module _ {B : Type 0} {first second : Answer} {new old : B} where
-  pub stops-there : {r : Answer} {left : B} → r ≡ first → (r .number ≡ allDone → ⊥) → left ≡ old
-      → Outcome (andThen first second) (written first new old) r left
-  stops-there {r} e h k =
-      let n : first .number ≡ allDone → ⊥ = λ z. h (ap (λ (x : Answer). x .number) e ∙ z) in
-      record { told = e ∙ sym (written-refused first second first n); kept = k ∙ sym (written-refused first new old n) }
+pub stops-there : {B : Type 0} {first r : Answer} {old left : B} (second : Answer) (new : B) → r ≡ first → (r .number ≡ allDone → ⊥) → left ≡ old
+    → Outcome (andThen first second) (written first new old) r left
+stops-there {B} {first} {r} {old} second new e h k =
+    let n : first .number ≡ allDone → ⊥ = λ z. h (ap (λ (x : Answer). x .number) e ∙ z) in
+    record { told = e ∙ sym (written-refused first second first n); kept = k ∙ sym (written-refused first new old n) }
 
-  pub goes-further : {m r : Answer} {left : B} → m ≡ first → m .number ≡ allDone → Outcome second new r left
-      → Outcome (andThen first second) (written first new old) r left
-  goes-further {m} e h o =
-      let z : first .number ≡ allDone = ap (λ (x : Answer). x .number) (sym e) ∙ h in
-      record { told = o .told ∙ sym (written-done first second first z); kept = o .kept ∙ sym (written-done first new old z) }
+pub goes-further : {B : Type 0} {first second m r : Answer} {new left : B} (old : B) → m ≡ first → m .number ≡ allDone → Outcome second new r left
+    → Outcome (andThen first second) (written first new old) r left
+goes-further {B} {first} {second} {m} {r} {new} old e h o =
+    let z : first .number ≡ allDone = ap (λ (x : Answer). x .number) (sym e) ∙ h in
+    record { told = o .told ∙ sym (written-done first second first z); kept = o .kept ∙ sym (written-done first new old z) }

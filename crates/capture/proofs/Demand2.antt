@@ -3,7 +3,7 @@
 use Prim.Native.Nat.{ℕ, _+_, _-_, _*_, _^_, _<_}
 use mathlib.Core.Bool.{Bool, true, false, cond, not, _&&_}
 use mathlib.Core.Path.{_≡_, refl, sym, ap, _∙_}
-use mathlib.Core.List.{List, [], _∷_}
+use mathlib.Core.List.{List}
 use native.Mathlib.Omega.{arith}
 use borrow.Author.Tests.{ltb-true, eq-eqb, ne-eqb}
 use lib.Dec.{ltb, eqb}
@@ -12,12 +12,10 @@ use Rattle.bits.specs.Bits.{num, Bits}
 use Rattle.bits.specs.Loops.{count}
 use Rattle.bits.proofs.Numbers.{num-is, num-zero}
 use Rattle.bits.proofs.Counting.{count-ext}
-use Rattle.answer.specs.Numbers.{wrongLength}
-use Rattle.answer.specs.Rows.{buffers, wrong, done, answerOf}
-use Rattle.answer.specs.Outcomes.{written}
-use Rattle.answer.specs.Steps.{faultsThen, rowThen, inTurn, NoFault, RowPassed, Passed}
+use Rattle.answer.specs.Rows.{done, answerOf}
+use Rattle.answer.specs.Steps.{NoFault, RowPassed, Passed}
 use Rattle.answer.specs.declared.Answer.{Answer}
-use Rattle.answer.proofs.Turns.{in-turn, turn-late, all-passed, length-right, none-there}
+use Rattle.answer.proofs.Turns.{early-passed, all-passed, length-right, none-there}
 use Rattle.answer.proofs.Meets.{written-done}
 use Rattle.crc.specs.Crc.{crcOf}
 use Rattle.crc.proofs.Changes.{crc-ext, crc-lt}
@@ -28,7 +26,7 @@ use Rattle.hamming.proofs.Words.{coded-checks}
 use Rattle.hamming.proofs.Turning.{turn-long}
 use Rattle.hamming.proofs.Repairs.{none-kept, one-seen, one-repaired}
 use Rattle.sizes.specs.Sizes.{infoBits, crcBits, mbasBits, mbasFrom, parityFrom, fecBits, fecBlocks, padFrom, padBits, infoLength, parityLength}
-use Rattle.sizes.specs.Sizes.{captureLength, words}
+use Rattle.sizes.specs.Sizes.{captureLength, words, wordBytes, wordBits}
 use Rattle.line.specs.Captures.{superAllowed}
 use Rattle.line.specs.Fec.{mbasAllowed, mbasOf, infoBit, blockCrc, fecBit}
 use Rattle.line.specs.Frames.{superOf, elementOf, infoOf, parityOf}
@@ -41,23 +39,23 @@ use Rattle.line_order.proofs.OrderLaws.{length-laid, word-laid}
 use Rattle.coder.specs.Code.{captureOf}
 use Rattle.coder.proofs.Coding.{word-filler}
 use Rattle.reading.specs.Read.{repaired, allZero, isBeyond, isFilled, mbasDiffers, crcDiffers, padDiffers, isSeen, readEarlyRows, readLateRows}
-use Rattle.reading.specs.Read.{readAnswer, readLeaves}
-use Rattle.capture.specs.Demand2.{Input, Choice, chosen, hurt, damaged, howMany, damagedAnswer, Demand2}
+use Rattle.reading.specs.Read.{readAnswer, given, readLeaves}
+use Rattle.capture.specs.Demand2.{Input, Choice, chosen, hurt, damaged, howMany, Demand2}
 use Rattle.capture.proofs.ReadLaws.{words-long, held-bits, super-read, fec-read}
 
 -- ---- a code word with at most one bit turned
 
 pub record Hurt (v : List ℕ) (p : ℕ) : Type 0 where
-  pub long : length (hurt v p) ≡ 16
+  pub long : length (hurt v p) ≡ wordBytes
   pub back : repairOf (hurt v p) .word ≡ v
   pub found : numberOf (repairOf (hurt v p) .found) ≡ 0
-  pub seen : not (eqb (checksOf (hurt v p)) 0) ≡ ltb p 128
+  pub seen : not (eqb (checksOf (hurt v p)) 0) ≡ ltb p wordBits
 
-hurt-by : (v : List ℕ) (p : ℕ) (b : Bool) → ltb p 128 ≡ b → length v ≡ 16 → checksOf v ≡ 0
-    → (length (cond b (turn v p) v) ≡ 16) × (repairOf (cond b (turn v p) v) .word ≡ v) × (numberOf (repairOf (cond b (turn v p) v) .found) ≡ 0)
+hurt-by : (v : List ℕ) (p : ℕ) (b : Bool) → ltb p wordBits ≡ b → length v ≡ wordBytes → checksOf v ≡ 0
+    → (length (cond b (turn v p) v) ≡ wordBytes) × (repairOf (cond b (turn v p) v) .word ≡ v) × (numberOf (repairOf (cond b (turn v p) v) .found) ≡ 0)
     × (not (eqb (checksOf (cond b (turn v p) v)) 0) ≡ b)
 hurt-by v p true e long clean =
-    let h : p < 128 = ltb-true p 128 e in
+    let h : p < wordBits = ltb-true p wordBits e in
     let r = one-repaired v long clean p h in (
       turn-long v p ∙ long,
       ap (λ (x : Repaired). x .word) r,
@@ -69,12 +67,12 @@ hurt-by v p false e long clean =
     let r = none-kept v clean in
     (long, ap (λ (x : Repaired). x .word) r, ap (λ (x : Repaired). numberOf (x .found)) r, ap not (eq-eqb (checksOf v) 0 clean))
 
-pub hurt-word : (v : List ℕ) (p : ℕ) → length v ≡ 16 → checksOf v ≡ 0 → Hurt v p
+pub hurt-word : (v : List ℕ) (p : ℕ) → length v ≡ wordBytes → checksOf v ≡ 0 → Hurt v p
 unfolding hurt
 hurt-word v p long clean =
-    let h = hurt-by v p (ltb p 128) refl long clean in record { long = h .0; back = h .1; found = h .2; seen = h .3 }
+    let h = hurt-by v p (ltb p wordBits) refl long clean in record { long = h .0; back = h .1; found = h .2; seen = h .3 }
 
-zeros : allZero (replicate 16 0) ≡ true
+zeros : allZero (replicate wordBytes 0) ≡ true
 unfolding allZero
 zeros = refl
 
@@ -184,27 +182,15 @@ module _ (N m0 : ℕ) (info par : List ℕ) (flips : Choice) where
     ),
   )
 
-  late-done : answerOf (readLateRows N m0 cap) (count (isSeen cap) (words N)) ≡ done (howMany N flips)
+  -- none of numbers 4 to 8 applies
+  pub late-done : answerOf (readLateRows N m0 cap) (count (isSeen cap) (words N)) ≡ done (howMany N flips)
   late-done = all-passed (readLateRows N m0 cap) (count (isSeen cap) (words N)) late-passed ∙ ap done counted
 
   pub cap-long : length cap ≡ captureLength N
   unfolding damaged
   cap-long = length-laid N (λ w. hurt (wordIn (captureOf N m0 info par) w) (flips w))
 
-  module _ (input : Input N m0 info par) (info₀ par₀ : List ℕ) where
-    abbrev wants : Answer
-    wants = damagedAnswer N flips (length info₀) (length par₀)
-
-    inside : not (superAllowed N && mbasAllowed m0) ≡ false
-    inside = rw (input .frames, input .number)
-
-    -- of numbers 1 and 2 only the length of a buffer to be filled can apply
-    pub answers-any : readAnswer N m0 cap info₀ par₀ ≡ wants
-    unfolding readAnswer readEarlyRows damagedAnswer inTurn rowThen faultsThen
-    answers-any =
-        turn-late (readEarlyRows N m0 (length cap) (length info₀) (length par₀)) (readLateRows N m0 cap) (count (isSeen cap) (words N))
-        ∙ rw (inside, length-right cap-long, late-done, in-turn (buffers wrongLength (false ∷ _ ∷ _ ∷ []) ∷ []) (howMany N flips))
-
+  module _ (input : Input N m0 info par) where
     info-read : infoOf N (fecIn (repaired cap)) ≡ info
     info-read =
         info-back N (fecIn (repaired cap)) info (input .info-long) (input .info-bytes)
@@ -215,19 +201,32 @@ module _ (N m0 : ℕ) (info par : List ℕ) (flips : Choice) where
         parity-back N (fecIn (repaired cap)) par (input .parity-long) (input .parity-bytes)
         (λ t j ht hj. block-read t (parityFrom + j) ht (omega arith) ∙ fec-parity m0 info par t j)
 
-    pub leaves-any : readLeaves N m0 cap info₀ par₀ ≡ written wants (info, par) (info₀, par₀)
-    unfolding readLeaves
-    leaves-any = rw (answers-any, info-read, parity-read)
+    -- what is given back is the input
+    pub given-input : given N cap ≡ (info, par)
+    given-input = rw (info-read, parity-read)
+
+    module _ (info₀ par₀ : List ℕ) (info₀-long : length info₀ ≡ infoLength N) (par₀-long : length par₀ ≡ parityLength N) where
+      -- numbers 1 and 2 do not apply, whatever the first number is that is read with
+      pub early-passed-by : (m1 : ℕ) → mbasAllowed m1 ≡ true → Passed (readEarlyRows N m1 (length cap) (length info₀) (length par₀))
+      unfolding readEarlyRows Passed RowPassed NoFault
+      early-passed-by m1 e =
+          let inside : not (superAllowed N && mbasAllowed m1) ≡ false = rw (input .frames, e) in
+          (inside, ((length-right cap-long, (length-right info₀-long, (length-right par₀-long, tt))), tt))
+
+      answers-done : readAnswer N m0 cap info₀ par₀ ≡ done (howMany N flips)
+      unfolding readAnswer
+      answers-done =
+          early-passed (readEarlyRows N m0 (length cap) (length info₀) (length par₀)) (readLateRows N m0 cap) (count (isSeen cap) (words N))
+          (early-passed-by m0 (input .number))
+          ∙ late-done
+
+      leaves-input : readLeaves N m0 cap info₀ par₀ ≡ (info, par)
+      unfolding readLeaves
+      leaves-input =
+          written-done (readAnswer N m0 cap info₀ par₀) (given N cap) (info₀, par₀) (ap (λ (a : Answer). a .number) answers-done) ∙ given-input
 
 -- ---- the theorem
 
 pub demand-2 : (N m0 : ℕ) (info par : List ℕ) → Input N m0 info par → (flips : Choice) → Demand2 N m0 info par flips
-unfolding damagedAnswer Passed RowPassed NoFault
 demand-2 N m0 info par input flips info₀ par₀ i₀ p₀ =
-    let done-all : damagedAnswer N flips (length info₀) (length par₀) ≡ done (howMany N flips) =
-    all-passed (buffers wrongLength (false ∷ wrong (infoLength N) (length info₀) ∷ wrong (parityLength N) (length par₀) ∷ []) ∷ []) (howMany N flips)
-    ((refl, (length-right i₀, (length-right p₀, tt))), tt) in
-    record {
-      answer = answers-any N m0 info par flips input info₀ par₀ ∙ done-all;
-      buffers = leaves-any N m0 info par flips input info₀ par₀ ∙ written-done _ (info, par) (info₀, par₀) (ap (λ (a : Answer). a .number) done-all);
-    }
+    record { answer = answers-done N m0 info par flips input info₀ par₀ i₀ p₀; buffers = leaves-input N m0 info par flips input info₀ par₀ i₀ p₀ }

@@ -7,22 +7,21 @@ use borrow.Author.Tests.{lt-ltb, eq-eqb}
 use lib.Dec.{ltb, eqb}
 use lib.ListN.{length, getD, drop}
 use Rattle.bits.specs.Loops.{count}
-use Rattle.answer.specs.Rows.{Row, done}
-use Rattle.answer.specs.Outcomes.{written}
-use Rattle.answer.specs.Steps.{inTurn, NoFault, RowPassed, Passed}
+use Rattle.answer.specs.Rows.{done, answerOf}
+use Rattle.answer.specs.Steps.{NoFault, RowPassed, Passed}
 use Rattle.answer.specs.declared.Answer.{Answer}
-use Rattle.answer.proofs.Turns.{in-turn, turn-late, all-passed, length-right, none-there}
+use Rattle.answer.proofs.Turns.{early-passed, all-passed, length-right, none-there}
 use Rattle.answer.proofs.Meets.{written-done}
 use Rattle.hamming.specs.Code.{checksOf}
-use Rattle.sizes.specs.Sizes.{captureLength, words, blocksOf}
+use Rattle.sizes.specs.Sizes.{words, blocksOf}
 use Rattle.line.specs.Captures.{superAllowed}
 use Rattle.line_order.specs.Order.{wordIn}
 use Rattle.coder.specs.Code.{captureOf}
 use Rattle.coder.proofs.Coding.{capture-long}
-use Rattle.editing.specs.Edit.{listed, listOf, spareSet, fails, editEarlyRows, editLateRows, editAnswer, editLeaves}
+use Rattle.editing.specs.Edit.{listed, listOf, spareSet, fails, editEarlyRows, editLateRows, editAnswer, edited, editLeaves}
 use Rattle.editing.proofs.Listing.{listed-holding, holding-listed}
 use Rattle.editing.proofs.Promises.{list-is, byte-kept}
-use Rattle.capture.specs.Demand3.{EditInput, newInfo, newParity, EditsAsCoded, codedEditAnswer, Demand3}
+use Rattle.capture.specs.Demand3.{EditInput, newInfo, newParity, Demand3}
 use Rattle.capture.proofs.Demand2.{clean}
 use Rattle.capture.proofs.EditLaws.{coded-words, edit-is-coding}
 
@@ -33,12 +32,12 @@ module _ (N m0 b : ℕ) (bits parity info par list : List ℕ) where
   abbrev listedCount : ℕ
   listedCount = count (listed N b) (words N)
 
-  abbrev early : List Row
-  early = editEarlyRows N b (length bits) (length parity) (captureLength N) (length list) (spareSet bits)
-
   -- the edited input coded afresh, and the list
   abbrev afresh : List ℕ × List ℕ
   afresh = (captureOf N m0 (newInfo N b bits info) (newParity N b parity par), listOf N b ++ drop listedCount list)
+
+  pub edited-afresh : edited N b bits parity cap list ≡ afresh
+  edited-afresh = rw (edit-is-coding N m0 b bits parity info par)
 
   -- every word of a coded capture passes its checks
   no-9 : (w : ℕ) → w < words N → fails N b cap w ≡ false
@@ -53,41 +52,38 @@ module _ (N m0 b : ℕ) (bits parity info par list : List ℕ) where
   unfolding editLateRows Passed RowPassed
   later-passed = (none-there (words N) (fails N b cap) no-9, tt)
 
-  pub edit-answers : editAnswer N b bits parity cap list ≡ codedEditAnswer N b bits parity list
-  unfolding editAnswer codedEditAnswer
-  edit-answers =
-      rw (capture-long N m0 info par) (turn-late early (editLateRows N b cap) listedCount)
-      ∙ ap (inTurn early) (all-passed (editLateRows N b cap) listedCount later-passed)
-      ∙ sym (in-turn early listedCount)
-
-  pub edit-leaves : editLeaves N b bits parity cap list ≡ written (codedEditAnswer N b bits parity list) afresh (cap, list)
-  unfolding editLeaves
-  edit-leaves = rw (edit-answers, edit-is-coding N m0 b bits parity info par)
+  -- number 9 does not apply
+  pub later-done : answerOf (editLateRows N b cap) listedCount ≡ done listedCount
+  later-done = all-passed (editLateRows N b cap) listedCount later-passed
 
   module _ (input : EditInput N b bits parity list) where
-    early-passed : Passed early
+    first-passed : Passed (editEarlyRows N b (length bits) (length parity) (length cap) (length list) (spareSet bits))
     unfolding editEarlyRows Passed RowPassed NoFault
-    early-passed =
-        let inside : not (superAllowed N && ltb b (blocksOf N)) ≡ false = rw (input .frames, lt-ltb b (blocksOf N) (input .block)) in (
+    first-passed =
+        let inside : not (superAllowed N && ltb b (blocksOf N)) ≡ false = rw (input .frames, lt-ltb b (blocksOf N) (input .block)) in
+        let cap-long = length-right (capture-long N m0 info par) in (
           inside,
           (
-            (length-right (input .bits-long), (length-right (input .parity-long), (length-right refl, (length-right (input .list-long), tt)))),
+            (length-right (input .bits-long), (length-right (input .parity-long), (cap-long, (length-right (input .list-long), tt)))),
             ((input .spare, tt), tt),
           ),
         )
 
-    edits : EditsAsCoded N m0 b bits parity info par list (editAnswer N b bits parity cap list) (editLeaves N b bits parity cap list)
-    unfolding codedEditAnswer
-    edits =
-        let done-all : codedEditAnswer N b bits parity list ≡ done listedCount = all-passed early listedCount early-passed in
-        record {
-          answer = edit-answers ∙ done-all;
-          buffers = edit-leaves ∙ written-done (codedEditAnswer N b bits parity list) afresh (cap, list) (ap (λ (a : Answer). a .number) done-all);
-        }
+    edit-answers : editAnswer N b bits parity cap list ≡ done listedCount
+    unfolding editAnswer
+    edit-answers =
+        early-passed (editEarlyRows N b (length bits) (length parity) (length cap) (length list) (spareSet bits)) (editLateRows N b cap) listedCount first-passed
+        ∙ later-done
+
+    edit-leaves : editLeaves N b bits parity cap list ≡ afresh
+    unfolding editLeaves
+    edit-leaves =
+        written-done (editAnswer N b bits parity cap list) (edited N b bits parity cap list) (cap, list) (ap (λ (a : Answer). a .number) edit-answers)
+        ∙ edited-afresh
 
 pub demand-3 : (N m0 b : ℕ) (bits parity info par list : List ℕ) → EditInput N b bits parity list → Demand3 N m0 b bits parity info par list
 demand-3 N m0 b bits parity info par list input = record {
-  edits = edits N m0 b bits parity info par list input;
+  edits = record { answer = edit-answers N m0 b bits parity info par list input; buffers = edit-leaves N m0 b bits parity info par list input };
   lists = list-is N b (input .block);
   holding = λ w. (listed-holding N b w, holding-listed N b w);
   kept = λ i h n.

@@ -6,7 +6,7 @@ use native.Mathlib.Omega.{arith}
 use lib.ListN.{length}
 use Rattle.bits.specs.Bits.{bitAt, Bits}
 use Rattle.hamming.proofs.Words.{coded-bit, coded-long}
-use Rattle.sizes.specs.Sizes.{fecBits, fecBlocks, superBits, elementBits, superElements, words}
+use Rattle.sizes.specs.Sizes.{fecBits, fecBlocks, superBits, elementBits, superElements, words, wordBytes}
 use Rattle.line.specs.Frames.{superOf, elementOf}
 use Rattle.line.specs.Slots.{slotOf, slotBit}
 use Rattle.line.specs.Words.{wordsOf, elementFrom, superIn, fecIn}
@@ -14,7 +14,7 @@ use Rattle.line.proofs.FrameLaws.{element-bits, super-back, super-bits, fec-bac
 use Rattle.line.proofs.SlotLaws.{slot-lt, slot-bit, slot-bits}
 
 module _ (N : ℕ) (F : ℕ → ℕ → ℕ) where
-  pub words-long : (w : ℕ) → length (wordsOf N F w) ≡ 16
+  pub words-long : (w : ℕ) → length (wordsOf N F w) ≡ wordBytes
   unfolding wordsOf
   words-long w = coded-long (slotBit N (elementOf (superOf F)) w)
 

@@ -1,7 +1,7 @@
 -- What follows from demand 2 of a capture as it was coded: reading it counts 0, and reading it with another first number is refused.
 -- Assumes nothing.
 use Prim.Native.Nat.{ℕ, zero, suc, _*_, _<_}
-use mathlib.Core.Bool.{true, false, not, _&&_}
+use mathlib.Core.Bool.{true, not}
 use mathlib.Core.Path.{_≡_, refl, sym, ap, _∙_}
 use mathlib.Core.List.{List}
 use native.Mathlib.Omega.{arith}
@@ -12,10 +12,9 @@ use Rattle.bits.specs.Loops.{count}
 use Rattle.bits.proofs.LoopLaws.{first-is}
 use Rattle.answer.specs.Numbers.{wrongMbas}
 use Rattle.answer.specs.Rows.{refused}
-use Rattle.answer.specs.Steps.{rowThen, inTurn, NoFault, RowPassed, Passed}
-use Rattle.answer.proofs.Turns.{in-turn, early-passed, length-right, none-there}
+use Rattle.answer.specs.Steps.{rowThen, inTurn}
+use Rattle.answer.proofs.Turns.{in-turn, early-passed, none-there}
 use Rattle.sizes.specs.Sizes.{mbasBits, mbasFrom, fecBlocks, infoLength, parityLength, captureLength, words, wordBits}
-use Rattle.line.specs.Captures.{superAllowed}
 use Rattle.line.specs.Fec.{mbasAllowed, mbasOf}
 use Rattle.line.specs.Words.{fecIn}
 use Rattle.line.proofs.CaptureLaws.{super-frames}
@@ -24,7 +23,7 @@ use Rattle.coder.specs.Code.{captureOf}
 use Rattle.coder.proofs.Coding.{capture-long}
 use Rattle.reading.specs.Read.{repaired, isBeyond, isFilled, isSeen, mbasDiffers, readEarlyRows, readLateRows, readAnswer, readLeaves}
 use Rattle.capture.specs.Demand2.{Input, Choice, chosen, hurt, damaged, howMany, ReadsBack}
-use Rattle.capture.proofs.Demand2.{demand-2, no-4, no-5, mbas-read, cap-long}
+use Rattle.capture.proofs.Demand2.{demand-2, no-4, no-5, mbas-read, early-passed-by}
 
 -- no bit chosen
 abbrev pub unhurt : Choice
@@ -68,19 +67,14 @@ module _ (N m0 m1 : ℕ) (info par info₀ par₀ : List ℕ) (input : Input N m
       ap not (ne-eqb (num mbasBits (fecIn (repaired hurtNot) 0) mbasFrom) (mbasOf m1 0)
       (λ e. differ (first-mbas m0 m1 (input .number) other (sym (mbas-read N m0 info par unhurt 0 some) ∙ e))))
 
-  early-passed-by : Passed (readEarlyRows N m1 (length hurtNot) (length info₀) (length par₀))
-  unfolding readEarlyRows Passed RowPassed NoFault
-  early-passed-by =
-      let inside : not (superAllowed N && mbasAllowed m1) ≡ false = rw (input .frames, other) in
-      (inside, ((length-right (cap-long N m0 info par unhurt), (length-right info₀-long, (length-right par₀-long, tt))), tt))
-
   pub read-other : readAnswer N m1 (captureOf N m0 info par) info₀ par₀ ≡ refused wrongMbas 0
   unfolding readAnswer readLateRows inTurn rowThen
   read-other =
       let long = capture-long N m0 info par in
       let c = count (isSeen hurtNot) (words N) in
       ap (λ (s : List ℕ). readAnswer N m1 s info₀ par₀) (sym (none-hurt N (captureOf N m0 info par) long))
-      ∙ early-passed (readEarlyRows N m1 (length hurtNot) (length info₀) (length par₀)) (readLateRows N m1 hurtNot) c early-passed-by
+      ∙ early-passed (readEarlyRows N m1 (length hurtNot) (length info₀) (length par₀)) (readLateRows N m1 hurtNot) c
+      (early-passed-by N m0 info par unhurt input info₀ par₀ info₀-long par₀-long m1 other)
       ∙ in-turn (readLateRows N m1 hurtNot) c
       ∙ rw (none-there (words N) (isBeyond hurtNot) (no-4 N m0 info par unhurt), none-there (words N) (isFilled N hurtNot) (no-5 N m0 info par unhurt))
       (rw (first-is (mbasDiffers m1 hurtNot) 0 (fecBlocks * N) (λ q l. absurd (omega arith)) some mbas-other, lt-ltb 0 (fecBlocks * N) some))

@@ -1,9 +1,9 @@
 -- DEMAND 2: "One to eight super frames, coded and flushed, read back to every client and parity bit even with one flipped bit in each 128-bit
 -- word, and the count of such words is exact." The theorem is `demand-2` of proofs/Demand2.antt. Assumes nothing: these are definitions.
 use Prim.Native.Nat.{ℕ}
-use mathlib.Core.Bool.{Bool, true, false, cond}
+use mathlib.Core.Bool.{Bool, true, cond}
 use mathlib.Core.Path.{_≡_}
-use mathlib.Core.List.{List, [], _∷_}
+use mathlib.Core.List.{List}
 use lib.Dec.{ltb}
 use lib.ListN.{length}
 use Rattle.bits.specs.Bits.{Bytes}
@@ -13,8 +13,7 @@ use Rattle.sizes.specs.Sizes.{wordBits, infoLength, parityLength, words}
 use Rattle.line.specs.Captures.{superAllowed}
 use Rattle.line.specs.Fec.{mbasAllowed}
 use Rattle.line_order.specs.Order.{laid, wordIn}
-use Rattle.answer.specs.Numbers.{wrongLength}
-use Rattle.answer.specs.Rows.{buffers, wrong, done, answerOf}
+use Rattle.answer.specs.Rows.{done}
 use Rattle.answer.specs.declared.Answer.{Answer}
 use Rattle.coder.specs.Code.{captureOf}
 use Rattle.reading.specs.Read.{readAnswer, readLeaves}
@@ -51,12 +50,6 @@ howMany N flips = count (chosen flips) (words N)
 pub record ReadsBack (info par : List ℕ) (seen : ℕ) (r : Answer) (left : List ℕ × List ℕ) : Type 0 where
   pub answer : r ≡ done seen
   pub buffers : left ≡ (info, par)
-
--- what reading answers to a coded and damaged capture, whatever the two buffers are: of three buffers the capture has its length, and nothing but
--- the length of one of the others is refused
-unfoldable pub damagedAnswer : ℕ → Choice → ℕ → ℕ → Answer
-damagedAnswer N flips info par =
-    answerOf (buffers wrongLength (false ∷ wrong (infoLength N) info ∷ wrong (parityLength N) par ∷ []) ∷ []) (howMany N flips)
 
 -- whatever the two buffers held before
 abbrev pub Demand2 : ℕ → ℕ → List ℕ → List ℕ → Choice → Type 0

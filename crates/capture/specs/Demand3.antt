@@ -9,13 +9,13 @@ use lib.Dec.{ltb, leb, eqb}
 use lib.ListN.{length, getD, drop}
 use Rattle.bits.specs.Bits.{tabulate, bitAt, pack}
 use Rattle.bits.specs.Loops.{count}
-use Rattle.answer.specs.Rows.{done, answerOf}
+use Rattle.answer.specs.Rows.{done}
 use Rattle.answer.specs.declared.Answer.{Answer}
 use Rattle.sizes.specs.Sizes.{captureLength, words, blockBits, clientBlocks, parityBytes, infoLength, parityLength, blocksOf, blockBytes, listLength}
 use Rattle.line.specs.Captures.{superAllowed}
 use Rattle.line_order.specs.Order.{wordAt}
 use Rattle.coder.specs.Code.{captureOf}
-use Rattle.editing.specs.Edit.{listed, listOf, spareSet, editEarlyRows, editAnswer, editLeaves}
+use Rattle.editing.specs.Edit.{listed, listOf, spareSet, editAnswer, editLeaves}
 use Rattle.editing.specs.Listed.{Holding, Lists}
 
 -- client block b of the capture stands at bits 257 b .. 257 b + 256 of the information
@@ -44,11 +44,6 @@ pub record EditInput (N b : ℕ) (bits parity list : List ℕ) : Type 0 where
 pub record EditsAsCoded (N m0 b : ℕ) (bits parity info par list : List ℕ) (r : Answer) (left : List ℕ × List ℕ) : Type 0 where
   pub answer : r ≡ done (count (listed N b) (words N))
   pub buffers : left ≡ (captureOf N m0 (newInfo N b bits info) (newParity N b parity par), listOf N b ++ drop (count (listed N b) (words N)) list)
-
--- what an edit of a coded capture answers, whatever the numbers and the buffers are: number 9 never applies
-unfoldable pub codedEditAnswer : ℕ → ℕ → List ℕ → List ℕ → List ℕ → Answer
-codedEditAnswer N b bits parity list =
-    answerOf (editEarlyRows N b (length bits) (length parity) (captureLength N) (length list) (spareSet bits)) (count (listed N b) (words N))
 
 -- an edit of a coded capture: what it comes to, which words are listed, and that no byte of another word changes
 pub record Demand3 (N m0 b : ℕ) (bits parity info par list : List ℕ) : Type 0 where

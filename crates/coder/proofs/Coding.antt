@@ -18,7 +18,7 @@ use Rattle.scrambler.proofs.Rule.{o-lt}
 use Rattle.line_order.specs.Order.{byteBy, groupSize, lineOrder}
 use Rattle.line_order.proofs.Groups.{group-laid}
 use Rattle.line_order.proofs.OrderLaws.{length-laid}
-use Rattle.sizes.specs.Sizes.{elementBits, superElements, superBytes, groupWords, captureLength}
+use Rattle.sizes.specs.Sizes.{elementBits, superElements, superBytes, groupWords, captureLength, wordBytes}
 use Rattle.line.specs.Fec.{fecBit}
 use Rattle.line.specs.Frames.{superOf, elementOf}
 use Rattle.line.specs.Slots.{elementIn, holds, slotBit}
@@ -29,7 +29,7 @@ use Rattle.coder.specs.Steps.{Agree, plainBit, entry}
 
 -- ---- words
 
-pub word-filler : (N : ℕ) (F : ℕ → ℕ → ℕ) (w : ℕ) → holds N w ≡ false → replicate 16 0 ≡ wordsOf N F w
+pub word-filler : (N : ℕ) (F : ℕ → ℕ → ℕ) (w : ℕ) → holds N w ≡ false → replicate wordBytes 0 ≡ wordsOf N F w
 unfolding wordsOf
 word-filler N F w h =
     sym (coded-ext (slotBit N (elementOf (superOf F)) w) (λ i. 0) (λ i l. filler-bit N (elementOf (superOf F)) w i h) ∙ coded-zero)
@@ -40,25 +40,25 @@ unfolding captureOf
 capture-long N m0 info par = length-laid N (wordsOf N (fecBit m0 info par))
 
 -- the mask of element e: its part of the scrambler's sequence
-mask-bit : (sequence mask : List ℕ) (e i : ℕ) → sequence ≡ pack superBytes o → mask ≡ pack 16 (from (bitAt sequence) (elementBits * (e % superElements)))
+mask-bit : (sequence mask : List ℕ) (e i : ℕ) → sequence ≡ pack superBytes o → mask ≡ pack wordBytes (from (bitAt sequence) (elementBits * (e % superElements)))
     → i < elementBits → bitAt mask i ≡ o (elementBits * (e % superElements) + i)
 mask-bit sequence mask e i p q h =
     ap (λ (s : List ℕ). bitAt s i) q
-    ∙ bitOf-packs 8 16 (from (bitAt sequence) (elementBits * (e % superElements))) i (λ j. bitOf-lt 8 sequence (elementBits * (e % superElements) + j))
+    ∙ bitOf-packs 8 wordBytes (from (bitAt sequence) (elementBits * (e % superElements))) i (λ j. bitOf-lt 8 sequence (elementBits * (e % superElements) + j))
     (omega arith)
     ∙ ap (λ (s : List ℕ). bitAt s (elementBits * (e % superElements) + i)) p
     ∙ bitOf-packs 8 superBytes o (elementBits * (e % superElements) + i) o-lt (omega arith)
 
 module _ (N : ℕ) (F : ℕ → ℕ → ℕ) (w e : ℕ) (sequence table tails plain mask sum r : List ℕ) where
   pub word-held : holds N w ≡ true → e ≡ elementIn w → sequence ≡ pack superBytes o → table ≡ byteTable → tails ≡ tailTable
-      → Agree (bitAt plain) (plainBit F e) → mask ≡ pack 16 (from (bitAt sequence) (elementBits * (e % superElements)))
-      → sum ≡ pack 16 (added (bitAt plain) (bitAt mask)) → r ≡ wordBy table tails sum → r ≡ wordsOf N F w
+      → Agree (bitAt plain) (plainBit F e) → mask ≡ pack wordBytes (from (bitAt sequence) (elementBits * (e % superElements)))
+      → sum ≡ pack wordBytes (added (bitAt plain) (bitAt mask)) → r ≡ wordBy table tails sum → r ≡ wordsOf N F w
   unfolding wordsOf elementOf plainBit
   word-held h pe ps pt pl a pm pa pr =
       pr ∙ by-word table tails sum pt pl
       ∙ coded-ext (bitAt sum) (slotBit N (elementOf (superOf F)) w)
       (λ i l. ap (λ (s : List ℕ). bitAt s i) pa
-      ∙ bitOf-packs 8 16 (added (bitAt plain) (bitAt mask)) i (λ j. omega arith) (omega arith)
+      ∙ bitOf-packs 8 wordBytes (added (bitAt plain) (bitAt mask)) i (λ j. omega arith) (omega arith)
       ∙ ap₂ (λ (x y : ℕ). (x + y) % 2) (a i l) (mask-bit sequence mask e i ps pm l)
       ∙ ap (λ (x : ℕ). elementOf (superOf F) x i) pe
       ∙ sym (held-bit N (elementOf (superOf F)) w i h))

@@ -15,6 +15,7 @@ use Rattle.crc.specs.Steps.{entries, crcBy}
 use Rattle.crc.proofs.Changes.{crc-ext}
 use Rattle.crc.proofs.Bytewise.{bytes-crc}
 use Rattle.sizes.specs.Sizes.{infoBits, crcBits, mbasFrom, parityBits, parityFrom, fecBits, elementBits, superElements, fecElements, infoBytes, infoElements}
+use Rattle.sizes.specs.Sizes.{wordBytes}
 use Rattle.line.specs.Fec.{fecBit, infoBit, parityBit, blockCrc, mbasOf}
 use Rattle.line.specs.Frames.{superOf}
 use Rattle.line.proofs.FecLaws.{fec-info, fec-crc, fec-mbas, fec-parity}
@@ -24,9 +25,9 @@ use Rattle.coder.proofs.Tails.{tail-low, tail-mid, tail-high, tail-bits
 
 -- ---- which layer an element's bits are of
 
-pub plain-pad : (F : ℕ → ℕ → ℕ) (e : ℕ) → 10970 ≤ e % superElements → Agree (bitAt (replicate 16 0)) (plainBit F e)
+pub plain-pad : (F : ℕ → ℕ → ℕ) (e : ℕ) → 10970 ≤ e % superElements → Agree (bitAt (replicate wordBytes 0)) (plainBit F e)
 unfolding plainBit
-plain-pad F e h i l = bitOf-zeros 8 16 i ∙ sym (super-pad F (e / superElements) (elementBits * (e % superElements) + i) (omega arith))
+plain-pad F e h i l = bitOf-zeros 8 wordBytes i ∙ sym (super-pad F (e / superElements) (elementBits * (e % superElements) + i) (omega arith))
 
 -- the FEC block and the local element of element e
 pub plain-fec : (F : ℕ → ℕ → ℕ) (e i : ℕ) → e % superElements < 10970 → i < elementBits
@@ -77,8 +78,8 @@ module _ (m0 : ℕ) (info par : List ℕ) (t : ℕ) where
 
 -- ---- from what a callee packed
 
-agree-packed : (r : List ℕ) (g h : ℕ → ℕ) → Bits g → r ≡ pack 16 g → Agree g h → Agree (bitAt r) h
-agree-packed r g h b e a i l = ap (λ (s : List ℕ). bitAt s i) e ∙ bitOf-packs 8 16 g i b (omega arith) ∙ a i l
+agree-packed : (r : List ℕ) (g h : ℕ → ℕ) → Bits g → r ≡ pack wordBytes g → Agree g h → Agree (bitAt r) h
+agree-packed r g h b e a i l = ap (λ (s : List ℕ). bitAt s i) e ∙ bitOf-packs 8 wordBytes g i b (omega arith) ∙ a i l
 
 pub from-bits : (s : List ℕ) (a : ℕ) → Bits (from (bitAt s) a)
 from-bits s a i = bitOf-lt 8 s (a + i)
@@ -93,20 +94,20 @@ module _ (m0 : ℕ) (info par r : List ℕ) (e : ℕ) (no-pad : e % superElement
   abbrev F : ℕ → ℕ → ℕ
   F = fecBit m0 info par
 
-  pub plain-info : local < infoElements → r ≡ pack 16 (from (bitAt info) (infoBits * block + elementBits * local)) → Agree (bitAt r) (plainBit F e)
+  pub plain-info : local < infoElements → r ≡ pack wordBytes (from (bitAt info) (infoBits * block + elementBits * local)) → Agree (bitAt r) (plainBit F e)
   plain-info h p =
       agree-packed r (from (bitAt info) (infoBits * block + elementBits * local)) (plainBit F e) (from-bits info (infoBits * block + elementBits * local)) p
       (λ i l. sym (plain-fec F e i no-pad l ∙ held-info m0 info par block local i h l))
 
   pub plain-tail : (crc mbas : ℕ) → local ≡ infoElements → crc ≡ blockCrc info block → mbas ≡ mbasOf m0 block
-      → r ≡ pack 16 (tailBit crc mbas (from (bitAt par) (parityBits * block))) → Agree (bitAt r) (plainBit F e)
+      → r ≡ pack wordBytes (tailBit crc mbas (from (bitAt par) (parityBits * block))) → Agree (bitAt r) (plainBit F e)
   plain-tail crc mbas h pc pm p =
       agree-packed r (tailBit crc mbas (from (bitAt par) (parityBits * block))) (plainBit F e)
       (tail-bits crc mbas (from (bitAt par) (parityBits * block)) (from-bits par (parityBits * block))) p
       (λ i l. let q : elementBits * local + i ≡ infoBits + i = omega arith in
       rw (pc, pm) (sym (plain-fec F e i no-pad l ∙ ap (F block) q ∙ held-tail m0 info par block i l)))
 
-  pub plain-parity : infoElements < local → r ≡ pack 16 (from (bitAt par) (parityBits * block + (elementBits * (local - infoElements) - guardBits)))
+  pub plain-parity : infoElements < local → r ≡ pack wordBytes (from (bitAt par) (parityBits * block + (elementBits * (local - infoElements) - guardBits)))
       → Agree (bitAt r) (plainBit F e)
   plain-parity h p =
       agree-packed r (from (bitAt par) (parityBits * block + (elementBits * (local - infoElements) - guardBits))) (plainBit F e)

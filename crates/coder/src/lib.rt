@@ -7,7 +7,7 @@ ghost use Rattle.bits.specs.Bits.{tabulate, bitAt, byteOf, pack, from};
 ghost use Rattle.answer.specs.Outcomes.{Outcome};
 ghost use Rattle.answer.specs.Rows.{answerOf};
 ghost use Rattle.crc.specs.Steps.{entries};
-ghost use Rattle.sizes.specs.Sizes.{infoBytes, fecBlocks, superElements, infoLength, captureLength, words, mostFrames};
+ghost use Rattle.sizes.specs.Sizes.{infoBytes, fecBlocks, superElements, infoLength, captureLength, words, mostFrames, wordBytes};
 ghost use Rattle.line.specs.Fec.{fecBit, blockCrc};
 ghost use Rattle.line.specs.Words.{wordsOf};
 ghost use Rattle.coder.specs.Code.{captureOf, codeRows, codeAnswer, codeLeaves};
@@ -219,7 +219,7 @@ fn plain_element(
 // The element of a block's CRC and MBAS, with the parity from bit `at` on behind them.
 fn tail_element(crc: u32, mbas: u8, parity: &[u8], at: usize) -> [u8; 16]
     requires { ⌜ (mbas < 64) × (at < 2 ^ 32) ⌝ }
-    ensures { λ r. ⌜ r ≡ pack 16 (tailBit crc mbas (from (bitAt (now (parity .entry))) at)) ⌝ }
+    ensures { λ r. ⌜ r ≡ pack wordBytes (tailBit crc mbas (from (bitAt (now (parity .entry))) at)) ⌝ }
 {
     let mut r = [0u8; 16];
     for k in 0..sizes::WORD_BYTES {
@@ -230,7 +230,7 @@ fn tail_element(crc: u32, mbas: u8, parity: &[u8], at: usize) -> [u8; 16]
 
 // Byte k of it: four of CRC, one that MBAS and parity share, then parity.
 fn tail_byte(crc: u32, mbas: u8, parity: &[u8], at: usize, k: usize) -> u8
-    requires { ⌜ (mbas < 64) × (at < 2 ^ 32) × (k < 16) ⌝ }
+    requires { ⌜ (mbas < 64) × (at < 2 ^ 32) × (k < wordBytes) ⌝ }
     ensures { λ r. ⌜ r ≡ byteOf (tailBit crc mbas (from (bitAt (now (parity .entry))) at)) k ⌝ }
 {
     if k < 4 {

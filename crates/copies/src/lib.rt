@@ -2,6 +2,7 @@
 ghost use mathlib.Core.Path.{_≡_};
 ghost use Prim.Native.Nat.{_+_, _/_, _<_};
 ghost use lib.ListN.{length};
+ghost use Rattle.sizes.specs.Sizes.{wordBytes};
 ghost use Rattle.bits.specs.Bits.{bitAt, pack, from, added};
 
 // Fills out with the bits from bit i on, where the slice reaches past them: no byte is tested.
@@ -42,7 +43,7 @@ pub fn copy(s: &[u8], i: usize, out: &mut [u8])
 
 // The sixteen bytes of the 128 bits from bit i on, wherever they stand; zeros past the end.
 pub fn word_from(s: &[u8], i: usize) -> [u8; 16]
-    ensures { λ r. ⌜ r ≡ pack 16 (from (bitAt (now (s .entry))) i) ⌝ }
+    ensures { λ r. ⌜ r ≡ pack wordBytes (from (bitAt (now (s .entry))) i) ⌝ }
 {
     let mut r = [0u8; 16];
     copy(s, i, &mut r);
@@ -51,7 +52,7 @@ pub fn word_from(s: &[u8], i: usize) -> [u8; 16]
 
 // Bit by bit, the sum of two words without carries.
 pub fn sum(a: [u8; 16], b: [u8; 16]) -> [u8; 16]
-    ensures { λ r. ⌜ r ≡ pack 16 (added (bitAt a) (bitAt b)) ⌝ }
+    ensures { λ r. ⌜ r ≡ pack wordBytes (added (bitAt a) (bitAt b)) ⌝ }
 {
     let mut r = [0u8; 16];
     for k in 0..sizes::WORD_BYTES {

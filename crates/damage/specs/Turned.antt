@@ -14,7 +14,7 @@ turnedWord w v cap = putWord cap w (pack wordBytes (added (bitAt (wordIn cap w))
 
 -- the word that has bit i only, the top bit of a byte being 128; none where i is past its 128 bits
 unfoldable pub bitAlone : ℕ → List ℕ
-bitAlone i = set (replicate 16 0) (i / 8) (128 / 2 ^ (i % 8))
+bitAlone i = set (replicate wordBytes 0) (i / 8) (128 / 2 ^ (i % 8))
 
 -- bit 37 w + 11, modulo 128, of word w
 unfoldable pub turnedOnce : ℕ → List ℕ → List ℕ
@@ -22,4 +22,4 @@ turnedOnce w cap = turnedWord w (bitAlone ((37 * w + 11) % 128)) cap
 
 -- that bit of each word
 unfoldable pub turnedInAll : List ℕ → List ℕ
-turnedInAll cap = upto turnedOnce cap (length cap / 16)
+turnedInAll cap = upto turnedOnce cap (length cap / wordBytes)

@@ -1,32 +1,73 @@
 -- From the promises of the coder to the demands. Assumes nothing.
 use Prim.Native.Nat.{ℕ}
-use mathlib.Core.Bool.{_&&_}
+use mathlib.Core.Bool.{false, not, _&&_}
 use mathlib.Core.Path.{_≡_, sym, ap, _∙_}
-use mathlib.Core.List.{List}
+use mathlib.Core.List.{List, [], _∷_, _++_}
 use borrow.Author.Tests.{not-false}
-use lib.ListN.{length}
+use lib.ListN.{length, drop}
 use Rattle.bits.specs.Bits.{Bytes}
+use Rattle.bits.specs.Loops.{count}
 use Rattle.bits.proofs.Common.{and-left, and-right}
-use Rattle.answer.specs.Numbers.{allDone}
-use Rattle.answer.specs.Outcomes.{Outcome}
-use Rattle.answer.specs.Steps.{NoFault, RowPassed, Passed}
+use Rattle.answer.specs.Numbers.{allDone, wrongLength}
+use Rattle.answer.specs.Rows.{Row, buffers, wrong}
+use Rattle.answer.specs.Outcomes.{Outcome, written}
+use Rattle.answer.specs.Steps.{faultsThen, rowThen, inTurn, NoFault, RowPassed, Passed}
 use Rattle.answer.specs.declared.Answer.{Answer}
-use Rattle.answer.proofs.Turns.{granted-passed, right-length}
+use Rattle.answer.proofs.Turns.{in-turn, turn-late, granted-passed, right-length, length-right}
 use Rattle.answer.proofs.Meets.{written-done, written-refused, stops-there, goes-further}
-use Rattle.sizes.specs.Sizes.{words}
+use Rattle.sizes.specs.Sizes.{words, infoLength, parityLength, captureLength}
 use Rattle.line.specs.Captures.{superAllowed}
 use Rattle.line.specs.Fec.{mbasAllowed}
 use Rattle.coder.specs.Code.{captureOf, codeRows, codeAnswer, codeLeaves}
 use Rattle.coder.proofs.Judging.{code-rise}
 use Rattle.coder.proofs.Coding.{capture-long}
-use Rattle.reading.specs.Read.{readAnswer, readLeaves}
-use Rattle.editing.specs.Edit.{editAnswer, editLeaves}
-use Rattle.capture.specs.Demand2.{Input, damaged}
-use Rattle.capture.proofs.Demand2.{answers-any, leaves-any}
-use Rattle.capture.proofs.Demand3.{edit-answers, edit-leaves}
-use Rattle.demands.specs.Demands.{choiceOf, codeReadAnswer, codeReadLeaves, codeEditAnswer, codeEditLeaves}
+use Rattle.reading.specs.Read.{isSeen, readEarlyRows, readLateRows, readAnswer, readLeaves}
+use Rattle.editing.specs.Edit.{listed, listOf, spareSet, editEarlyRows, editLateRows, editAnswer, editLeaves}
+use Rattle.capture.specs.Demand2.{Input, damaged, howMany}
+use Rattle.capture.specs.Demand3.{newInfo, newParity}
+use Rattle.capture.proofs.Demand2.{cap-long, late-done, given-input}
+use Rattle.capture.proofs.Demand3.{later-done, edited-afresh}
+use Rattle.demands.specs.Demands.{choiceOf, damagedAnswer, codeReadAnswer, codeReadLeaves, codedEditAnswer, codeEditAnswer, codeEditLeaves}
 use Rattle.demands.specs.Steps.{hurtBytes}
 use Rattle.demands.proofs.Hurting.{hurt-bytes}
+
+-- ---- what reading and an edit answer to a coded capture, whatever the buffers are
+
+module _ (N m0 : ℕ) (info par flips info₀ par₀ : List ℕ) (input : Input N m0 info par) where
+  abbrev cap : List ℕ
+  cap = damaged N (choiceOf flips) (captureOf N m0 info par)
+
+  -- of numbers 1 and 2 only the length of a buffer to be filled can apply
+  answers-any : readAnswer N m0 cap info₀ par₀ ≡ damagedAnswer N flips info₀ par₀
+  unfolding readAnswer readEarlyRows damagedAnswer inTurn rowThen faultsThen
+  answers-any =
+      let inside : not (superAllowed N && mbasAllowed m0) ≡ false = rw (input .frames, input .number) in
+      turn-late (readEarlyRows N m0 (length cap) (length info₀) (length par₀)) (readLateRows N m0 cap) (count (isSeen cap) (words N))
+      ∙ rw (inside, length-right (cap-long N m0 info par (choiceOf flips)), late-done N m0 info par (choiceOf flips))
+      (sym (in-turn (buffers wrongLength (false ∷ wrong (infoLength N) (length info₀) ∷ wrong (parityLength N) (length par₀) ∷ []) ∷ [])
+      (howMany N (choiceOf flips))))
+
+  leaves-any : readLeaves N m0 cap info₀ par₀ ≡ written (damagedAnswer N flips info₀ par₀) (info, par) (info₀, par₀)
+  unfolding readLeaves
+  leaves-any = rw (answers-any, given-input N m0 info par (choiceOf flips) input)
+
+module _ (N m0 b : ℕ) (info par bits parity list : List ℕ) where
+  abbrev early : List Row
+  early = editEarlyRows N b (length bits) (length parity) (captureLength N) (length list) (spareSet bits)
+
+  edit-any : editAnswer N b bits parity (captureOf N m0 info par) list ≡ codedEditAnswer N b bits parity list
+  unfolding editAnswer codedEditAnswer
+  edit-any =
+      let c = count (listed N b) (words N) in
+      let late = editLateRows N b (captureOf N m0 info par) in
+      rw (capture-long N m0 info par)
+      (turn-late early late c ∙ ap (inTurn early) (later-done N m0 b bits parity info par list) ∙ sym (in-turn early c))
+
+  edit-leaves-any : editLeaves N b bits parity (captureOf N m0 info par) list
+      ≡ written (codedEditAnswer N b bits parity list)
+      (captureOf N m0 (newInfo N b bits info) (newParity N b parity par), listOf N b ++ drop (count (listed N b) (words N)) list) (captureOf N m0 info par, list)
+  unfolding editLeaves
+  edit-leaves-any = rw (edit-any, edited-afresh N m0 b bits parity info par list)
 
 -- ---- what coding has answered and left
 
@@ -67,7 +108,7 @@ module _ (N m0 : ℕ) (info par cap : List ℕ) {m : Answer} {out : List ℕ}
         → Outcome {B = List ℕ × (List ℕ × List ℕ)} (codeReadAnswer N m0 info par flips cap info₀ par₀) (codeReadLeaves N m0 info par flips cap info₀ par₀) m
         (out, (info₀, par₀))
     unfolding codeReadAnswer codeReadLeaves
-    read-stops h = stops-there (coding .told) h (ap (λ (s : List ℕ). (s, (info₀, par₀))) (refused-kept h))
+    read-stops h = stops-there _ _ (coding .told) h (ap (λ (s : List ℕ). (s, (info₀, par₀))) (refused-kept h))
 
     pub read-follows : {hurt : List ℕ} {r : Answer} {left : List ℕ × List ℕ} → Bytes info → Bytes par → m .number ≡ allDone → hurt ≡ hurtBytes flips out
         → Outcome (readAnswer N m0 hurt info₀ par₀) (readLeaves N m0 hurt info₀ par₀) r left
@@ -80,9 +121,9 @@ module _ (N m0 : ℕ) (info par cap : List ℕ) {m : Answer} {out : List ℕ}
         let i = input z bi bp in
         let q : hurt ≡ damaged N c (captureOf N m0 info par) =
         turned ∙ hurt-bytes N flips out (ap length made ∙ capture-long N m0 info par) ∙ ap (damaged N c) made in
-        let a = ap (λ (s : List ℕ). readAnswer N m0 s info₀ par₀) q ∙ answers-any N m0 info par c i info₀ par₀ in
-        let l = ap (λ (s : List ℕ). readLeaves N m0 s info₀ par₀) q ∙ leaves-any N m0 info par c i info₀ par₀ in
-        goes-further (coding .told) z (record { told = o .told ∙ a; kept = rw (q, o .kept, l) })
+        let a = ap (λ (s : List ℕ). readAnswer N m0 s info₀ par₀) q ∙ answers-any N m0 info par flips info₀ par₀ i in
+        let l = ap (λ (s : List ℕ). readLeaves N m0 s info₀ par₀) q ∙ leaves-any N m0 info par flips info₀ par₀ i in
+        goes-further _ (coding .told) z (record { told = o .told ∙ a; kept = rw (q, o .kept, l) })
 
   -- ---- demand 3
 
@@ -90,7 +131,7 @@ module _ (N m0 : ℕ) (info par cap : List ℕ) {m : Answer} {out : List ℕ}
     pub edit-stops : (m .number ≡ allDone → ⊥)
         → Outcome {B = List ℕ × List ℕ} (codeEditAnswer N m0 b info par bits parity cap list) (codeEditLeaves N m0 b info par bits parity cap list) m (out, list)
     unfolding codeEditAnswer codeEditLeaves
-    edit-stops h = stops-there (coding .told) h (ap (λ (s : List ℕ). (s, list)) (refused-kept h))
+    edit-stops h = stops-there _ _ (coding .told) h (ap (λ (s : List ℕ). (s, list)) (refused-kept h))
 
     pub edit-follows : {r : Answer} {left : List ℕ × List ℕ} → m .number ≡ allDone
         → Outcome (editAnswer N b bits parity out list) (editLeaves N b bits parity out list) r left
@@ -98,7 +139,7 @@ module _ (N m0 : ℕ) (info par cap : List ℕ) {m : Answer} {out : List ℕ}
     unfolding codeEditAnswer codeEditLeaves
     edit-follows z o =
         let q = coded z in
-        goes-further (coding .told) z (record {
-          told = o .told ∙ ap (λ (s : List ℕ). editAnswer N b bits parity s list) q ∙ edit-answers N m0 b bits parity info par list;
-          kept = o .kept ∙ ap (λ (s : List ℕ). editLeaves N b bits parity s list) q ∙ edit-leaves N m0 b bits parity info par list;
+        goes-further _ (coding .told) z (record {
+          told = o .told ∙ ap (λ (s : List ℕ). editAnswer N b bits parity s list) q ∙ edit-any N m0 b info par bits parity list;
+          kept = o .kept ∙ ap (λ (s : List ℕ). editLeaves N b bits parity s list) q ∙ edit-leaves-any N m0 b info par bits parity list;
         })

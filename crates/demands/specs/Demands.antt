@@ -2,33 +2,49 @@
 -- any numbers and any buffers. Demand 1 is `Demand1` of answer.specs.Demand1 at each call's rows; the round trip is mapping.specs.RoundTrip.
 -- Assumes nothing: these are definitions.
 use Prim.Native.Nat.{ℕ}
-use mathlib.Core.List.{List, _++_}
+use mathlib.Core.Bool.{false}
+use mathlib.Core.List.{List, [], _∷_, _++_}
 use lib.ListN.{length, getD, drop}
 use Rattle.bits.specs.Loops.{count}
+use Rattle.answer.specs.Numbers.{wrongLength}
+use Rattle.answer.specs.Rows.{buffers, wrong, answerOf}
 use Rattle.answer.specs.Outcomes.{written, andThen}
 use Rattle.answer.specs.declared.Answer.{Answer}
-use Rattle.sizes.specs.Sizes.{wordBits, words}
+use Rattle.sizes.specs.Sizes.{wordBits, words, infoLength, parityLength, captureLength}
 use Rattle.coder.specs.Code.{captureOf, codeAnswer}
-use Rattle.editing.specs.Edit.{listed, listOf}
-use Rattle.capture.specs.Demand2.{damaged, damagedAnswer}
-use Rattle.capture.specs.Demand3.{newInfo, newParity, codedEditAnswer}
+use Rattle.editing.specs.Edit.{listed, listOf, spareSet, editEarlyRows}
+use Rattle.capture.specs.Demand2.{damaged, howMany}
+use Rattle.capture.specs.Demand3.{newInfo, newParity}
 
 -- the choice of bits that a list of numbers makes: entry w for word w, and none past its end
 abbrev pub choiceOf : List ℕ → ℕ → ℕ
 choiceOf flips w = getD flips w wordBits
 
+-- what reading answers to a capture that was coded and damaged: of its three buffers the capture has its length, and nothing but the length of one of
+-- the others is refused
+unfoldable pub damagedAnswer : ℕ → List ℕ → List ℕ → List ℕ → Answer
+damagedAnswer N flips info₀ par₀ =
+    answerOf (buffers wrongLength (false ∷ wrong (infoLength N) (length info₀) ∷ wrong (parityLength N) (length par₀) ∷ []) ∷ [])
+    (howMany N (choiceOf flips))
+
 -- DEMAND 2: coded, one bit turned in each word that has one chosen, and read. The answer is coding's refusal, or that of reading: the count of such words
 unfoldable pub codeReadAnswer : ℕ → ℕ → List ℕ → List ℕ → List ℕ → List ℕ → List ℕ → List ℕ → Answer
 codeReadAnswer N m0 info par flips cap info₀ par₀ =
-    andThen (codeAnswer N m0 info par cap) (damagedAnswer N (choiceOf flips) (length info₀) (length par₀))
+    andThen (codeAnswer N m0 info par cap) (damagedAnswer N flips info₀ par₀)
 
 -- what is left in the capture and in the two buffers, which held info₀ and par₀: where all was done, the input itself
 unfoldable pub codeReadLeaves : ℕ → ℕ → List ℕ → List ℕ → List ℕ → List ℕ → List ℕ → List ℕ → List ℕ × (List ℕ × List ℕ)
 codeReadLeaves N m0 info par flips cap info₀ par₀ =
-    written (codeAnswer N m0 info par cap)
-    (damaged N (choiceOf flips) (captureOf N m0 info par),
-    written (damagedAnswer N (choiceOf flips) (length info₀) (length par₀)) (info, par) (info₀, par₀))
+    written (codeAnswer N m0 info par cap) (
+      damaged N (choiceOf flips) (captureOf N m0 info par),
+      written (damagedAnswer N flips info₀ par₀) (info, par) (info₀, par₀),
+    )
     (cap, (info₀, par₀))
+
+-- what an edit answers to a capture that was coded: the capture has its length, and number 9 does not apply
+unfoldable pub codedEditAnswer : ℕ → ℕ → List ℕ → List ℕ → List ℕ → Answer
+codedEditAnswer N b bits parity list =
+    answerOf (editEarlyRows N b (length bits) (length parity) (captureLength N) (length list) (spareSet bits)) (count (listed N b) (words N))
 
 -- DEMAND 3: coded, and a client block edited with its FEC block's parity. The answer is coding's refusal, or that of the edit: the count of listed words
 unfoldable pub codeEditAnswer : ℕ → ℕ → ℕ → List ℕ → List ℕ → List ℕ → List ℕ → List ℕ → List ℕ → Answer

@@ -12,7 +12,7 @@ use Rattle.crc.proofs.Changes.{alone}
 use Rattle.scrambler.specs.Scrambler.{o}
 use Rattle.scrambler.proofs.Rule.{o-lt}
 use Rattle.scrambler.proofs.Period.{within-period}
-use Rattle.sizes.specs.Sizes.{blockBits, infoBits, fecBits, fecBlocks, elementBits, superElements, fecElements}
+use Rattle.sizes.specs.Sizes.{blockBits, infoBits, fecBits, fecBlocks, elementBits, superElements, fecElements, wordBits}
 use Rattle.line.specs.Frames.{superFrom, fecFrom}
 use Rattle.line.specs.Slots.{slotOf}
 use Rattle.line_order.specs.Order.{symbolPlace, wordIn}
@@ -26,7 +26,7 @@ use Rattle.editing.proofs.Touching.{block-in, block-before, block-past}
 -- ---- what is read
 
 -- the sequence, from the one period that was made: bit k, and the bits from there on
-pub sequence-from : (scr : List ℕ) (k i : ℕ) → scr ≡ onePeriod → i < 128 → bitAt scr (k % period + i) ≡ o (k + i)
+pub sequence-from : (scr : List ℕ) (k i : ℕ) → scr ≡ onePeriod → i < wordBits → bitAt scr (k % period + i) ≡ o (k + i)
 sequence-from scr k i e h =
     ap (λ (s : List ℕ). bitAt s (k % period + i)) e ∙ bitOf-packs 8 8208 o (k % period + i) o-lt (omega arith) ∙ within-period k i
 
@@ -34,7 +34,7 @@ pub sequence-bit : (scr : List ℕ) (k : ℕ) → scr ≡ onePeriod → bitAt sc
 sequence-bit scr k e = ap (bitAt scr) (sym (add-zero (k % period))) ∙ sequence-from scr k 0 e (omega arith) ∙ ap o (add-zero k)
 
 -- bit j of word w, from the capture
-pub word-bit : (cap : List ℕ) (w j : ℕ) → j < 128 → bitAt cap (8 * symbolPlace w (j / 8) + j % 8) ≡ bitAt (wordIn cap w) j
+pub word-bit : (cap : List ℕ) (w j : ℕ) → j < wordBits → bitAt cap (8 * symbolPlace w (j / 8) + j % 8) ≡ bitAt (wordIn cap w) j
 unfolding bitOf
 word-bit cap w j h =
     bitOf-at 8 cap (symbolPlace w (j / 8)) (j % 8) (omega arith)

@@ -9,7 +9,7 @@ use native.Mathlib.Omega.{arith}
 use lib.ListN.{length, set, drop, length-append, length-drop}
 use Rattle.bits.specs.Loops.{count}
 use Rattle.hamming.proofs.Words.{coded-long}
-use Rattle.sizes.specs.Sizes.{captureLength, words, listLength}
+use Rattle.sizes.specs.Sizes.{captureLength, words, listLength, wordBytes}
 use Rattle.line.specs.Frames.{superOf, elementOf}
 use Rattle.line.specs.Slots.{slotBit}
 use Rattle.line_order.specs.Order.{laid, wordIn}
@@ -24,11 +24,11 @@ use Rattle.editing.proofs.Remaking.{word-made}
 
 -- ---- the words so far
 
-pub edited-long : (N b : ℕ) (bits parity cap : List ℕ) (x : ℕ) → length (editedWord N b bits parity cap x) ≡ 16
+pub edited-long : (N b : ℕ) (bits parity cap : List ℕ) (x : ℕ) → length (editedWord N b bits parity cap x) ≡ wordBytes
 unfolding editedWord wordsOf
 edited-long N b bits parity cap x = by (listed N b x)
   where
-    by : (t : Bool) → length (cond t (wordsOf N (editedFec b bits parity (fecIn (wordIn cap))) x) (wordIn cap x)) ≡ 16
+    by : (t : Bool) → length (cond t (wordsOf N (editedFec b bits parity (fecIn (wordIn cap))) x) (wordIn cap x)) ≡ wordBytes
     by true = coded-long (slotBit N (elementOf (superOf (editedFec b bits parity (fecIn (wordIn cap))))) x)
     by false = length-word cap x
 

@@ -12,6 +12,7 @@ use Rattle.scrambler.specs.Scrambler.{o}
 use Rattle.hamming.specs.Code.{wordOf}
 use Rattle.hamming.proofs.Words.{coded-ext}
 use Rattle.sizes.specs.Sizes.{infoBits, crcBits, mbasBits, mbasFrom, parityFrom, fecBits, fecBlocks, elementBits, superElements, fecElements, infoElements}
+use Rattle.sizes.specs.Sizes.{wordBytes}
 use Rattle.line.specs.Frames.{superOf, elementOf}
 use Rattle.line.specs.Slots.{elementIn, slotBit}
 use Rattle.line_order.specs.Order.{wordIn}
@@ -168,13 +169,13 @@ word-made N b bits parity cap w crc old h c q =
 -- ---- as the code makes it
 
 -- an element bit by bit
-pub made-slowly : (b : ℕ) (bits parity : List ℕ) (crc w : ℕ) (old v : List ℕ) → v ≡ pack 16 (newElement b bits parity crc (elementIn w) old)
+pub made-slowly : (b : ℕ) (bits parity : List ℕ) (crc w : ℕ) (old v : List ℕ) → v ≡ pack wordBytes (newElement b bits parity crc (elementIn w) old)
     → wordOf v ≡ remade b bits parity crc w old
 unfolding remade
 made-slowly b bits parity crc w old v e =
     let g = newElement b bits parity crc (elementIn w) old in
     ap (λ (s : List ℕ). wordOf s) e
-    ∙ coded-ext (bitAt (pack 16 g)) g (λ i h. bitOf-packs 8 16 g i (new-element-bits b bits parity crc (elementIn w) old) (omega arith))
+    ∙ coded-ext (bitAt (pack wordBytes g)) g (λ i h. bitOf-packs 8 wordBytes g i (new-element-bits b bits parity crc (elementIn w) old) (omega arith))
 
 -- an element that is all parity
 parity-bits : (parity : List ℕ) (e : ℕ) → Bits (parityElement parity e)
@@ -191,25 +192,25 @@ parity-new b bits parity crc e old i h =
     sym (ap (λ (x : ℕ). newBit b bits parity crc x k (bitAt old i)) p ∙ new-parity b bits parity crc k (bitAt old i) j)
 
 pub made-whole : (b : ℕ) (bits parity : List ℕ) (crc w : ℕ) (old v : List ℕ) → infoElements < elementLocal (elementIn w)
-    → v ≡ pack 16 (parityElement parity (elementIn w)) → wordOf v ≡ remade b bits parity crc w old
+    → v ≡ pack wordBytes (parityElement parity (elementIn w)) → wordOf v ≡ remade b bits parity crc w old
 unfolding remade
 made-whole b bits parity crc w old v h e =
     let g = parityElement parity (elementIn w) in
     ap (λ (s : List ℕ). wordOf s) e
-    ∙ coded-ext (bitAt (pack 16 g)) (newElement b bits parity crc (elementIn w) old)
-    (λ i l. bitOf-packs 8 16 g i (parity-bits parity (elementIn w)) (omega arith) ∙ parity-new b bits parity crc (elementIn w) old i h)
+    ∙ coded-ext (bitAt (pack wordBytes g)) (newElement b bits parity crc (elementIn w) old)
+    (λ i l. bitOf-packs 8 wordBytes g i (parity-bits parity (elementIn w)) (omega arith) ∙ parity-new b bits parity crc (elementIn w) old i h)
 
 -- the two stretches of 128 bits added
 pub parity-sum : (parity scr : List ℕ) (e : ℕ) (u v : List ℕ) → scr ≡ onePeriod → infoElements < elementLocal e
-    → u ≡ pack 16 (from (bitAt parity) (elementBits * elementLocal e - parityFrom))
-    → v ≡ pack 16 (from (bitAt scr) (elementBits * (e % superElements) % period))
-    → pack 16 (added (bitAt u) (bitAt v)) ≡ pack 16 (parityElement parity e)
+    → u ≡ pack wordBytes (from (bitAt parity) (elementBits * elementLocal e - parityFrom))
+    → v ≡ pack wordBytes (from (bitAt scr) (elementBits * (e % superElements) % period))
+    → pack wordBytes (added (bitAt u) (bitAt v)) ≡ pack wordBytes (parityElement parity e)
 unfolding parityElement
 parity-sum parity scr e u v s l p q =
     let a = elementBits * elementLocal e - parityFrom in
     let k = elementBits * (e % superElements) in
-    packs-ext 8 16 (added (bitAt u) (bitAt v)) (λ i. (bitAt parity (a + i) + o (k + i)) % 2)
+    packs-ext 8 wordBytes (added (bitAt u) (bitAt v)) (λ i. (bitAt parity (a + i) + o (k + i)) % 2)
     (λ i m. ap₂ (λ (x y : ℕ). (x + y) % 2)
-    (ap (λ (s : List ℕ). bitAt s i) p ∙ bitOf-packs 8 16 (from (bitAt parity) a) i (λ j. bitOf-lt 8 parity (a + j)) m)
-    (ap (λ (s : List ℕ). bitAt s i) q ∙ bitOf-packs 8 16 (from (bitAt scr) (k % period)) i (λ j. bitOf-lt 8 scr (k % period + j)) m
+    (ap (λ (s : List ℕ). bitAt s i) p ∙ bitOf-packs 8 wordBytes (from (bitAt parity) a) i (λ j. bitOf-lt 8 parity (a + j)) m)
+    (ap (λ (s : List ℕ). bitAt s i) q ∙ bitOf-packs 8 wordBytes (from (bitAt scr) (k % period)) i (λ j. bitOf-lt 8 scr (k % period + j)) m
     ∙ sequence-from scr k i s m))

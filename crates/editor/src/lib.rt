@@ -12,7 +12,7 @@ ghost use Rattle.answer.specs.Rows.{answerOf};
 ghost use Rattle.hamming.specs.Code.{checksOf};
 ghost use Rattle.lent.specs.Steps.{byteTable};
 ghost use Rattle.sizes.specs.Sizes.{blockBits, fecBits, fecBlocks, elementBits, superElements, fecElements, infoElements, captureLength, words, blocksOf};
-ghost use Rattle.sizes.specs.Sizes.{listLength, mostFrames, wordBits};
+ghost use Rattle.sizes.specs.Sizes.{listLength, mostFrames, wordBits, wordBytes};
 ghost use Rattle.line.specs.Slots.{elementIn};
 ghost use Rattle.line_order.specs.Order.{wordIn};
 ghost use Rattle.line.specs.Words.{fecIn};
@@ -327,7 +327,7 @@ fn new_byte(
     old: &[u8],
     j: usize,
 ) -> u8
-    requires { ⌜ (now scr ≡ onePeriod) × (e % superElements < fecElements * fecBlocks) × (j < 16) ⌝ }
+    requires { ⌜ (now scr ≡ onePeriod) × (e % superElements < fecElements * fecBlocks) × (j < wordBytes) ⌝ }
     ensures { λ r. ⌜ r ≡ byteOf (newElement b (now (bits .entry)) (now (parity .entry)) crc e (now (old .entry))) j ⌝ }
 {
     let mut acc: u32 = 0;
@@ -348,7 +348,7 @@ fn new_element(
     old: &[u8],
 ) -> [u8; 16]
     requires { ⌜ (now scr ≡ onePeriod) × (e % superElements < fecElements * fecBlocks) ⌝ }
-    ensures { λ r. ⌜ r ≡ pack 16 (newElement b (now (bits .entry)) (now (parity .entry)) crc e (now (old .entry))) ⌝ }
+    ensures { λ r. ⌜ r ≡ pack wordBytes (newElement b (now (bits .entry)) (now (parity .entry)) crc e (now (old .entry))) ⌝ }
 {
     let mut r = [0u8; 16];
     for j in 0..sizes::WORD_BYTES {
@@ -360,7 +360,7 @@ fn new_element(
 // An element that is all parity, in one piece.
 fn parity_element(parity: &[u8], scr: &[u8; PERIOD_BYTES], e: usize) -> [u8; 16]
     requires { ⌜ (now scr ≡ onePeriod) × (e % superElements < fecElements * fecBlocks) × (infoElements < elementLocal e) ⌝ }
-    ensures { λ r. ⌜ r ≡ pack 16 (parityElement (now (parity .entry)) e) ⌝ }
+    ensures { λ r. ⌜ r ≡ pack wordBytes (parityElement (now (parity .entry)) e) ⌝ }
 {
     let l = e % sizes::SUPER_ELEMENTS;
     let at = sizes::ELEMENT_BITS * (l % sizes::FEC_ELEMENTS) - sizes::PARITY_FROM;

@@ -13,7 +13,7 @@ use Rattle.bits.specs.Bits.{num, digit, bitAt, pack, Bits, Bytes}
 use Rattle.bits.proofs.Numbers.{digit-num}
 use Rattle.bits.proofs.Packing.{bitOf-lt, bitOf-packs, packs-bitOf, packs-ext, length-packs}
 use Rattle.answer.specs.Numbers.{allDone}
-use Rattle.answer.specs.Outcomes.{Outcome}
+use Rattle.answer.specs.Outcomes.{Outcome, written}
 use Rattle.answer.specs.Steps.{inTurn, rowThen, faultsThen}
 use Rattle.answer.specs.declared.Answer.{Answer}
 use Rattle.answer.proofs.Turns.{in-turn, length-right}
@@ -124,11 +124,11 @@ module _ (c f n : ℕ) (g w b : List ℕ) (bytes : Bytes g) where
       → Outcome (mapUnmapAnswer c f n g w b) (mapUnmapLeaves c f n g w b) r left
   unfolding mapUnmapAnswer mapUnmapLeaves
   round-trip (refused-first m h) =
-      let n : mapping .number ≡ allDone → ⊥ = λ z. h (ap (λ (x : Answer). x .number) (m .told) ∙ z) in
-      stops-there (m .told) h (ap (λ (x : List ℕ). (x, b)) (m .kept ∙ written-refused mapping mapped w n))
+      let not-done : mapping .number ≡ allDone → ⊥ = λ z. h (ap (λ (x : Answer). x .number) (m .told) ∙ z) in
+      stops-there (backAnswer c f n g b) (mapped, written (backAnswer c f n g b) g b) (m .told) h (ap (λ (x : List ℕ). (x, b)) (m .kept ∙ written-refused mapping mapped w not-done))
   round-trip (went-on {m} {r} {out} {back} p z u) =
       let t = map-taken c f n g (length w) (p .told) z in
       let made : out ≡ mapped = p .kept ∙ written-done mapping mapped w (ap (λ (x : Answer). x .number) (sym (p .told)) ∙ z) in
       let says = back-answer c f n g b out t (ap length made ∙ length-packs 8 (windowBytes n) (windowBit c f g)) in
       let same = back-bytes c f n g (t .window) (t .spare) bytes (t .groups-length) in
-      goes-further (p .told) z (record { told = u .told ∙ says; kept = rw (u .kept, says, made, same) })
+      goes-further (w, b) (p .told) z (record { told = u .told ∙ says; kept = rw (u .kept, says, made, same) })

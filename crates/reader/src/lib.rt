@@ -17,7 +17,7 @@ ghost use Rattle.hamming.specs.Code.{checksOf};
 ghost use Rattle.matrix.specs.Steps.{positionTable};
 ghost use Rattle.lent.specs.Steps.{byteTable};
 ghost use Rattle.hamming.specs.Repair.{repairOf};
-ghost use Rattle.sizes.specs.Sizes.{infoBits, fecBits, fecBlocks, superBytes, infoLength, parityLength, words, mostFrames};
+ghost use Rattle.sizes.specs.Sizes.{infoBits, fecBits, fecBlocks, superBytes, infoLength, parityLength, words, mostFrames, wordBytes};
 ghost use Rattle.line.specs.Frames.{infoOf, parityOf};
 ghost use Rattle.line.specs.Slots.{slotOf, holds};
 ghost use Rattle.line_order.specs.Order.{wordIn};
@@ -241,7 +241,7 @@ fn follow(a: [u8; 16], b: [u8; 16]) -> [u8; 16]
 // The bits of v from bit i on, and zeros: with a byte behind them none has to be tested.
 fn from_bit(v: [u8; 16], i: usize) -> [u8; 16]
     requires { ⌜ i < 8 ⌝ }
-    ensures { λ r. ⌜ r ≡ pack 16 (from (bitAt v) i) ⌝ }
+    ensures { λ r. ⌜ r ≡ pack wordBytes (from (bitAt v) i) ⌝ }
 {
     let mut w = [0u8; 17];
     for k in 0..sizes::WORD_BYTES {

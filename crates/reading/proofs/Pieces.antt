@@ -7,6 +7,7 @@ use native.Mathlib.Nat.{add-assoc, eq-or-lt-of-le}
 use native.Mathlib.Omega.{arith}
 use lib.Dec.{lit<}
 use lib.ListN.{length, getD, List·getD-eq-default}
+use Rattle.sizes.specs.Sizes.{wordBytes, checkBits}
 use Rattle.bits.specs.Bits.{num, digit, bitOf, bitAt, byteOf, pack, from, Bits, Bytes}
 use Rattle.bits.proofs.Common.{by-bound}
 use Rattle.bits.proofs.Lists.{getD-tabulate, getD-past, Filled, filled-at, filled-here}
@@ -24,32 +25,32 @@ use Rattle.line_order.specs.Order.{wordIn}
 use Rattle.reading.specs.Read.{repaired}
 
 -- the first nine bits of b
-pub nine-of : (b : List ℕ) → Bytes b → getD b 0 0 * 2 + getD b 1 0 / 128 ≡ num 9 (bitAt b) 0
+pub nine-of : (b : List ℕ) → Bytes b → getD b 0 0 * 2 + getD b 1 0 / 128 ≡ num checkBits (bitAt b) 0
 nine-of b h =
     ap₂ (λ (x y : ℕ). x * 2 + y) (sym (num-bitOf 8 b 0 (h 0)))
     (ap (λ (x : ℕ). x / 128) (sym (num-bitOf 8 b 1 (h 1))) ∙ num-front 1 7 (bitAt b) 8 (bitOf-lt 8 b))
     ∙ sym (num-split 8 1 (bitAt b) 0)
 
 -- the bits of a word from bit i on, out of its bytes and one of zeros
-pub zeros-behind : (v w d : List ℕ) (i : ℕ) → i < 8 → length v ≡ 16 → Filled 16 (λ k. getD v k 0) d w → getD d 16 0 ≡ 0
-    → pack 16 (from (bitAt w) i) ≡ pack 16 (from (bitAt v) i)
+pub zeros-behind : (v w d : List ℕ) (i : ℕ) → i < 8 → length v ≡ wordBytes → Filled wordBytes (λ k. getD v k 0) d w → getD d wordBytes 0 ≡ 0
+    → pack wordBytes (from (bitAt w) i) ≡ pack wordBytes (from (bitAt v) i)
 unfolding bitOf
 zeros-behind v w d i h len e z =
-    packs-ext 8 16 (from (bitAt w) i) (from (bitAt v) i) (λ j l. ap (λ (x : ℕ). digit 8 x ((i + j) % 8)) (by ((i + j) / 8) (omega arith)))
+    packs-ext 8 wordBytes (from (bitAt w) i) (from (bitAt v) i) (λ j l. ap (λ (x : ℕ). digit 8 x ((i + j) % 8)) (by ((i + j) / 8) (omega arith)))
   where
-    by : (k : ℕ) → k ≤ 16 → getD w k 0 ≡ getD v k 0
+    by : (k : ℕ) → k ≤ wordBytes → getD w k 0 ≡ getD v k 0
     by k m =
         ⊎-elim (λ q. rw q (filled-here 0 e ∙ z ∙ sym (List·getD-eq-default v 0 (omega arith)))) (λ l. filled-at 0 e l) (eq-or-lt-of-le m)
 
 -- byte k of them
-pub byte-behind : (v x : List ℕ) (i k : ℕ) → k < 16 → x ≡ pack 16 (from (bitAt v) i) → getD x k 0 ≡ num 8 (bitAt v) (8 * k + i)
+pub byte-behind : (v x : List ℕ) (i k : ℕ) → k < wordBytes → x ≡ pack wordBytes (from (bitAt v) i) → getD x k 0 ≡ num 8 (bitAt v) (8 * k + i)
 byte-behind v x i k h e =
     ap (λ (s : List ℕ). getD s k 0) e
-    ∙ getD-tabulate 0 16 (byteOf (from (bitAt v) i)) k h
+    ∙ getD-tabulate 0 wordBytes (byteOf (from (bitAt v) i)) k h
     ∙ num-ext 8 (from (bitAt v) i) (bitAt v) (8 * k) (8 * k + i) (λ j l. ap (bitAt v) (omega arith))
 
 -- thirty-two bits, out of the first four bytes of the bits from a on
-pub long-of : (f : ℕ → ℕ) (a : ℕ) (w : List ℕ) → w ≡ pack 16 (from f a)
+pub long-of : (f : ℕ → ℕ) (a : ℕ) (w : List ℕ) → w ≡ pack wordBytes (from f a)
     → ((getD w 0 0 * 256 + getD w 1 0) * 256 + getD w 2 0) * 256 + getD w 3 0 ≡ num 32 f a
 long-of f a w e =
     ap₂ (λ (x y : ℕ). x * 256 + y) (ap₂ (λ (x y : ℕ). x * 256 + y) (ap₂ (λ (x y : ℕ). x * 256 + y) (byte 0 (omega arith)
@@ -60,9 +61,9 @@ long-of f a w e =
     at : (k b : ℕ) → a + 8 * k ≡ b → num 8 f (a + 8 * k) ≡ num 8 f b
     at k b q = ap (num 8 f) q
 
-    byte : (k : ℕ) → k < 16 → getD w k 0 ≡ num 8 f (a + 8 * k)
+    byte : (k : ℕ) → k < wordBytes → getD w k 0 ≡ num 8 f (a + 8 * k)
     byte k h =
-        ap (λ (s : List ℕ). getD s k 0) e ∙ getD-tabulate 0 16 (byteOf (from f a)) k h
+        ap (λ (s : List ℕ). getD s k 0) e ∙ getD-tabulate 0 wordBytes (byteOf (from f a)) k h
         ∙ num-ext 8 (from f a) f (8 * k) (a + 8 * k) (λ j l. ap f (sym (add-assoc a (8 * k) j)))
 
 -- byte k of copied bits

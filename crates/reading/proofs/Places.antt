@@ -19,7 +19,7 @@ use Rattle.scrambler.proofs.Rule.{o-lt}
 use Rattle.hamming.specs.Code.{joined}
 use Rattle.hamming.proofs.Words.{joined-low, joined-high, joined-bit}
 use Rattle.sizes.specs.Sizes.{infoBits, parityBits, parityFrom, fecBits, infoBytes, parityBytes, fecBlocks, superBits, superBytes, superElements}
-use Rattle.sizes.specs.Sizes.{elementBits, superInfoBytes, superParityBytes}
+use Rattle.sizes.specs.Sizes.{elementBits, superInfoBytes, superParityBytes, wordBits, checkBits}
 use Rattle.line.specs.Frames.{superFrom, fecFrom}
 use Rattle.line.specs.Slots.{slotOf}
 use Rattle.line.specs.Words.{elementFrom, superIn, fecIn}
@@ -35,15 +35,15 @@ super-lt W f k = omega arith
 -- the bits of two words that follow each other
 followed-low : (a b : List ℕ) (x : ℕ) → x < elementBits → bitAt (followed a b) x ≡ bitAt a x
 followed-low a b x h =
-    joined-bit (bitAt a) (num 9 (bitAt b) 0) x (bitOf-lt 8 a) (omega arith) ∙ joined-low (bitAt a) (num 9 (bitAt b) 0) x h
+    joined-bit (bitAt a) (num checkBits (bitAt b) 0) x (bitOf-lt 8 a) (omega arith) ∙ joined-low (bitAt a) (num checkBits (bitAt b) 0) x h
 
-followed-high : (a b : List ℕ) (x : ℕ) → elementBits ≤ x → x < 128 → bitAt (followed a b) x ≡ bitAt b (x - elementBits)
+followed-high : (a b : List ℕ) (x : ℕ) → elementBits ≤ x → x < wordBits → bitAt (followed a b) x ≡ bitAt b (x - elementBits)
 followed-high a b x l h =
     let q : x ≡ elementBits + (x - elementBits) = omega arith in
-    joined-bit (bitAt a) (num 9 (bitAt b) 0) x (bitOf-lt 8 a) h
-    ∙ ap (joined (bitAt a) (num 9 (bitAt b) 0)) q
-    ∙ joined-high (bitAt a) (num 9 (bitAt b) 0) (x - elementBits)
-    ∙ digit-num 9 (bitAt b) 0 (x - elementBits) (bitOf-lt 8 b) (omega arith)
+    joined-bit (bitAt a) (num checkBits (bitAt b) 0) x (bitOf-lt 8 a) h
+    ∙ ap (joined (bitAt a) (num checkBits (bitAt b) 0)) q
+    ∙ joined-high (bitAt a) (num checkBits (bitAt b) 0) (x - elementBits)
+    ∙ digit-num checkBits (bitAt b) 0 (x - elementBits) (bitOf-lt 8 b) (omega arith)
     ∙ ap (bitAt b) (zero-add (x - elementBits))
 
 -- ---- a super frame out of its elements
@@ -53,7 +53,7 @@ module _ (W : ℕ → List ℕ) (f l : ℕ) where
   pair = followed (W (slotOf (superElements * f + l))) (W (slotOf (superElements * f + (l + 1))))
 
   -- the 128 bits from the first bit of element l on: 119 of its word, nine of the next one's
-  super-bit : (x : ℕ) → x < 128 → superIn W f (elementBits * l + x) ≡ (bitAt pair x + o (elementBits * l + x)) % 2
+  super-bit : (x : ℕ) → x < wordBits → superIn W f (elementBits * l + x) ≡ (bitAt pair x + o (elementBits * l + x)) % 2
   unfolding superIn superFrom elementFrom
   super-bit x h = by-bound elementBits x low high
     where

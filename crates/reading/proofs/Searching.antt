@@ -8,6 +8,7 @@ use native.Mathlib.Omega.{arith}
 use borrow.Author.Tests.{lt-ltb, le-ltb, eq-eqb, ne-eqb, eqb-true, not-false}
 use lib.Dec.{eqb}
 use lib.ListN.{length, getD}
+use Rattle.sizes.specs.Sizes.{wordBytes}
 use Rattle.bits.specs.Loops.{first, count}
 use Rattle.bits.proofs.Common.{by-bound}
 use Rattle.bits.proofs.LoopLaws.{First, first-holds, first-is, first-none, Passed}
@@ -130,7 +131,7 @@ pub some-none : (s : List ℕ) (k : ℕ) → getD s k 0 ≡ 0 → someAt s k ≡
 unfolding someAt
 some-none s k e = rw (eq-eqb (getD s k 0) 0 e)
 
-pub some-all : (s : List ℕ) {k : ℕ} → length s ≡ 16 → Passed k (someAt s) 16 → 16 ≤ k → true ≡ allZero s
+pub some-all : (s : List ℕ) {k : ℕ} → length s ≡ wordBytes → Passed k (someAt s) wordBytes → wordBytes ≤ k → true ≡ allZero s
 unfolding someAt
 some-all s {k} len p l =
     zero-all s (λ i h. eqb-true (getD s i 0) 0 (not-false (eqb (getD s i 0) 0) (p .none i (omega arith))))

@@ -19,7 +19,7 @@ use Rattle.hamming.specs.Code.{joinedWord}
 use Rattle.matrix.specs.Steps.{positionTable}
 use Rattle.lent.specs.Steps.{byteTable}
 use Rattle.sizes.specs.Sizes.{infoBits, crcBits, mbasBits, parityBits, mbasFrom, parityFrom, fecBits, fecBlocks, padFrom, padBits, superBytes, infoLength}
-use Rattle.sizes.specs.Sizes.{parityLength, captureLength, words, mostFrames}
+use Rattle.sizes.specs.Sizes.{parityLength, captureLength, words, mostFrames, checkBits}
 use Rattle.line.specs.Fec.{mbasOf}
 use Rattle.line.specs.Frames.{infoOf, parityOf}
 use Rattle.line.specs.Words.{superIn, fecIn}
@@ -71,7 +71,7 @@ startOf l = 15 * l - l / 8
 
 -- an element's 119 bits, and the first nine of the one after it
 abbrev pub followed : List ℕ → List ℕ → List ℕ
-followed a b = joinedWord (bitAt a) (num 9 (bitAt b) 0)
+followed a b = joinedWord (bitAt a) (num checkBits (bitAt b) 0)
 
 -- byte k from bit i of v on, and the scrambler's byte k added
 unfoldable pub plainByte : List ℕ → ℕ → List ℕ → ℕ → ℕ

@@ -1,5 +1,6 @@
 -- `coder::tail_element` meets its contract. Assumes nothing.
 use Prim.Native.Nat.{_-_}
+use Rattle.sizes.specs.Sizes.{wordBytes}
 use Rattle.bits.proofs.Lists.{Filled}
 use Rattle.bits.proofs.LoopLaws.{loops}
 use Rattle.bits.specs.Bits.{bitAt, byteOf, from}
@@ -11,7 +12,7 @@ abbrev Inv-loop : tie.InvT-loop
 Inv-loop crc mbas parity at r₀ k₀ r k = Filled k (byteOf (tailBit crc mbas (from (bitAt parity) at))) r₀ r
 
 abbrev μ-loop : tie.MeasureT-loop
-μ-loop crc mbas parity at r₀ k₀ r k = 16 - k
+μ-loop crc mbas parity at r₀ k₀ r k = wordBytes - k
 
 loop-holds : tie.Need-loop-holds Inv-loop μ-loop
 loop-holds c = search loops

@@ -4,6 +4,7 @@ use lib.ListN.{getD}
 use mir.Val.{Fits}
 use mir.Syntax.{w8}
 use borrow.Author.Needs.{needs}
+use Rattle.sizes.specs.Sizes.{wordBytes}
 use Rattle.bits.specs.Bits.{bitAt, byteOf, added}
 use Rattle.bits.proofs.Lists.{Filled, filled-more}
 use Rattle.bits.proofs.LoopLaws.{loops}
@@ -15,7 +16,7 @@ abbrev Inv-loop : tie.InvT-loop
 Inv-loop a b r₀ k₀ r k = Filled k (byteOf (added (bitAt a) (bitAt b))) r₀ r
 
 abbrev μ-loop : tie.MeasureT-loop
-μ-loop a b r₀ k₀ r k = 16 - k
+μ-loop a b r₀ k₀ r k = wordBytes - k
 
 loop-holds : tie.Need-loop-holds Inv-loop μ-loop
 loop-holds c = search loops

@@ -4,6 +4,7 @@ use mathlib.Core.Path.{refl, sym}
 use native.Mathlib.Omega.{arith}
 use lib.ListN.{replicate}
 use lib.Seq.{set-out}
+use Rattle.sizes.specs.Sizes.{wordBytes}
 use Rattle.damage.specs.Turned.{bitAlone}
 use borrow.Author.Needs.{needs}
 use Rattle.damage.proofs.bit.Statement.{statement}
@@ -26,8 +27,8 @@ returns-2 : tie.Need-returns-2
 unfolding bitAlone
 returns-2 c =
     let i = c .before .args .i in
-    let h : 16 ≤ i / 8 = omega arith in
-    sym (set-out (replicate 16 0) (i / 8) _ h)
+    let h : wordBytes ≤ i / 8 = omega arith in
+    sym (set-out (replicate wordBytes 0) (i / 8) _ h)
 
 pub bit-spec : {M : Type 1} → statement M
 bit-spec = tie.close (tie.spec cast-v shr-v array-write-v returns returns-2)

@@ -38,9 +38,11 @@ returns-2 c =
     let r = c .before .before .before .before in
     let d = r .before .before .before .before .before .before in
     let k = d .before .before .before .before .before .before in
-    let a = k .before .before .before .before .before .before .before .before .args in
+    let known = k .before .before .before .before .before .before in
+    let a = known .before .before .args in
     read-follows (a .n) (a .m0) (now (a .info)) (now (a .parity)) (now (a .capture)) (k .code .ensures) (now (a .flips)) (now (a .back)) (now (a .parity-back))
-    ? ? ? (d .damage .ensures) (r .read .ensures)
+    (λ i. known .before .shared-slice-known .given i .fits) (λ i. known .shared-slice-known2 .given i .fits) (d .before .before .if1 .left)
+    (d .damage .ensures) (r .read .ensures)
 
 pub code-damage-read-spec : {M : Type 1} → statement M
 code-damage-read-spec =

@@ -30,10 +30,11 @@ same-length-3 c = search needs
 returns-2 : tie.Need-returns-2
 returns-2 c =
     let d = c .before .before .before .before in
-    let k = d .before .before .before .before .before .before .before in
+    let went-on = d .before .before .before in
+    let k = went-on .before .before .before .before in
     let a = k .before .before .before .before .before .before .before .before .args in
     edit-follows (a .n) (a .m0) (now (a .info)) (now (a .parity)) (now (a .capture)) (k .code .ensures) (a .block) (now (a .bits)) (now (a .new-parity)) (now (a .list))
-    ? (d .edit .ensures)
+    (went-on .if1 .left) (d .edit .ensures)
 
 pub code-edit-spec : {M : Type 1} → statement M
 code-edit-spec =

@@ -1,6 +1,7 @@
 -- `editor::new_element` meets its contract. Assumes nothing.
 use Prim.Native.Nat.{_-_}
 use native.Mathlib.Omega.{arith}
+use Rattle.sizes.specs.Sizes.{wordBytes}
 use Rattle.bits.specs.Bits.{byteOf}
 use Rattle.bits.proofs.Lists.{Filled, filled-none, filled-more, filled-all}
 use Rattle.editing.specs.Steps.{newElement}
@@ -11,7 +12,7 @@ abbrev Inv-loop : tie.InvT-loop
 Inv-loop b bits parity scr crc e old r₀ j₀ r j = Filled j (byteOf (newElement b bits parity crc e old)) r₀ r
 
 abbrev μ-loop : tie.MeasureT-loop
-μ-loop b bits parity scr crc e old r₀ j₀ r j = 16 - j
+μ-loop b bits parity scr crc e old r₀ j₀ r j = wordBytes - j
 
 loop-holds : tie.Need-loop-holds Inv-loop μ-loop
 loop-holds c = filled-none
@@ -33,7 +34,7 @@ loop-again : tie.Need-loop-again Inv-loop μ-loop
 loop-again c = filled-more (c .before .before .loop .inv) (c .before .loop-test .taken) (c .new-byte .ensures)
 
 returns : tie.Need-returns Inv-loop μ-loop
-returns c = filled-all 16 (c .before .loop .inv) (c .loop-test .left) (omega arith)
+returns c = filled-all wordBytes (c .before .loop .inv) (c .loop-test .left) (omega arith)
 
 pub new-element-spec : {M : Type 1} → statement M
 new-element-spec =

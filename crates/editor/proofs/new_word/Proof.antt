@@ -2,6 +2,7 @@
 use Prim.Native.Nat.{ℕ}
 use mathlib.Core.Path.{ap, _∙_}
 use denote.Ref.{now}
+use Rattle.sizes.specs.Sizes.{wordBytes}
 use Rattle.bits.specs.Bits.{pack}
 use Rattle.lent.proofs.Tabled.{by-word}
 use Rattle.editing.specs.Edit.{elementLocal}
@@ -33,7 +34,7 @@ returns c =
     ∙ by-word (now (a .t)) (now (a .tails)) (c .before .parity-element .result) (s .pre .0 .checks) (s .pre .0 .closing)
     ∙ made-whole (a .b) (now (a .bits)) (now (a .parity)) (a .crc) (a .w) (a .t9) (c .before .parity-element .result)
     (rw (e .element-in .ensures) at (c .before .before .if1 .taken))
-    (c .before .parity-element .ensures ∙ ap (λ (x : ℕ). pack 16 (parityElement (now (a .parity)) x)) (e .element-in .ensures))
+    (c .before .parity-element .ensures ∙ ap (λ (x : ℕ). pack wordBytes (parityElement (now (a .parity)) x)) (e .element-in .ensures))
 
 slice-aggregate-new-element : tie.Need-slice-aggregate-new-element
 slice-aggregate-new-element c = search needs
@@ -55,7 +56,7 @@ returns-2 c =
     c .encode-by2 .ensures
     ∙ by-word (now (a .t)) (now (a .tails)) (c .before .new-element .result) (s .pre .0 .checks) (s .pre .0 .closing)
     ∙ made-slowly (a .b) (now (a .bits)) (now (a .parity)) (a .crc) (a .w) (a .t9) (c .before .new-element .result)
-    (c .before .new-element .ensures ∙ ap (λ (x : ℕ). pack 16 (newElement (a .b) (now (a .bits)) (now (a .parity)) (a .crc) x (a .t9)))
+    (c .before .new-element .ensures ∙ ap (λ (x : ℕ). pack wordBytes (newElement (a .b) (now (a .bits)) (now (a .parity)) (a .crc) x (a .t9)))
     (e .element-in .ensures))
 
 pub new-word-spec : {M : Type 1} → statement M

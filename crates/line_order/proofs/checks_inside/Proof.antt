@@ -5,7 +5,7 @@ use native.Mathlib.Omega.{arith}
 use denote.Ref.{now}
 use lib.ListN.{getD}
 use borrow.Author.Needs.{needs}
-use Rattle.sizes.specs.Sizes.{groupWords}
+use Rattle.sizes.specs.Sizes.{groupWords, wordBytes}
 use Rattle.lent.specs.Steps.{entryAt, sumBy}
 use Rattle.matrix.proofs.Sums.{Summed, summed-none, summed-more, summed-all}
 use Rattle.line_order.specs.Order.{groupSize, symbolPlace, wordIn}
@@ -14,10 +14,10 @@ use Rattle.line_order.proofs.checks_inside.Statement.{statement}
 use Rattle.line_order.proofs.checks_inside.Tie as tie
 
 abbrev Inv-loop : tie.InvT-loop
-Inv-loop t capture w group j sum₀ k₀ sum k = Summed (entryAt t (wordIn capture w)) 16 k sum
+Inv-loop t capture w group j sum₀ k₀ sum k = Summed (entryAt t (wordIn capture w)) wordBytes k sum
 
 abbrev μ-loop : tie.MeasureT-loop
-μ-loop t capture w group j sum₀ k₀ sum k = 16 - k
+μ-loop t capture w group j sum₀ k₀ sum k = wordBytes - k
 
 mul-group : tie.Need-mul-group Inv-loop μ-loop
 mul-group c = search needs

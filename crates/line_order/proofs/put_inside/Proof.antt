@@ -4,7 +4,7 @@ use mathlib.Core.Path.{_≡_, refl, ap}
 use native.Mathlib.Omega.{arith}
 use lib.ListN.{length, length-set, getD, set}
 use Rattle.bits.proofs.LoopLaws.{Folded, folded-none, folded-more, folded-all}
-use Rattle.sizes.specs.Sizes.{groupWords}
+use Rattle.sizes.specs.Sizes.{groupWords, wordBytes}
 use Rattle.line_order.specs.Order.{groupSize, symbolPlace, lineOrder}
 use Rattle.line_order.proofs.OrderLaws.{place-group}
 use Rattle.line_order.proofs.put_inside.Statement.{statement}
@@ -13,10 +13,10 @@ use Rattle.line_order.proofs.put_inside.Tie as tie
 
 abbrev Inv-loop : tie.InvT-loop
 Inv-loop capture₀ w v group j s₀ capture s =
-    Folded (putSymbolBy lineOrder w v) capture₀ s capture × (length capture ≡ length capture₀) × (s ≤ 16)
+    Folded (putSymbolBy lineOrder w v) capture₀ s capture × (length capture ≡ length capture₀) × (s ≤ wordBytes)
 
 abbrev μ-loop : tie.MeasureT-loop
-μ-loop capture₀ w v group j s₀ capture s = 16 - s
+μ-loop capture₀ w v group j s₀ capture s = wordBytes - s
 
 mul-group : tie.Need-mul-group Inv-loop μ-loop
 mul-group c = omega arith
@@ -60,7 +60,7 @@ same-length c = omega arith
 
 returns : tie.Need-returns Inv-loop μ-loop
 unfolding putBy
-returns c = folded-all 16 (c .before .loop .inv .0) (c .before .loop .inv .2) (c .loop-test .left)
+returns c = folded-all wordBytes (c .before .loop .inv .0) (c .before .loop .inv .2) (c .loop-test .left)
 
 pub put-inside-spec : {M : Type 1} → statement M
 put-inside-spec =

@@ -3,6 +3,7 @@ use Prim.Native.Nat.{_-_, _≤_}
 use mathlib.Core.Path.{_≡_, refl}
 use native.Mathlib.Omega.{arith}
 use lib.ListN.{length, length-set}
+use Rattle.sizes.specs.Sizes.{wordBytes}
 use Rattle.bits.proofs.LoopLaws.{Folded, folded-none, folded-more, folded-all}
 use Rattle.line_order.specs.Order.{lineOrder}
 use Rattle.line_order.proofs.put_tested.Statement.{statement}
@@ -11,10 +12,10 @@ use Rattle.line_order.proofs.put_tested.Tie as tie
 
 abbrev Inv-loop : tie.InvT-loop
 Inv-loop capture₀ w v k₀ capture k =
-    Folded (putSymbolBy lineOrder w v) capture₀ k capture × (length capture ≡ length capture₀) × (k ≤ 16)
+    Folded (putSymbolBy lineOrder w v) capture₀ k capture × (length capture ≡ length capture₀) × (k ≤ wordBytes)
 
 abbrev μ-loop : tie.MeasureT-loop
-μ-loop capture₀ w v k₀ capture k = 16 - k
+μ-loop capture₀ w v k₀ capture k = wordBytes - k
 
 loop-holds : tie.Need-loop-holds Inv-loop μ-loop
 loop-holds c = (folded-none, refl, omega arith)
@@ -43,7 +44,7 @@ same-length c = omega arith
 
 returns : tie.Need-returns Inv-loop μ-loop
 unfolding putBy
-returns c = folded-all 16 (c .before .loop .inv .0) (c .before .loop .inv .2) (c .loop-test .left)
+returns c = folded-all wordBytes (c .before .loop .inv .0) (c .before .loop .inv .2) (c .loop-test .left)
 
 pub put-tested-spec : {M : Type 1} → statement M
 put-tested-spec =

@@ -6,7 +6,7 @@ use denote.Ref.{now}
 use lib.ListN.{getD}
 use Rattle.bits.proofs.Lists.{Filled, filled-more}
 use Rattle.bits.proofs.LoopLaws.{loops}
-use Rattle.sizes.specs.Sizes.{groupWords}
+use Rattle.sizes.specs.Sizes.{groupWords, wordBytes}
 use Rattle.line_order.specs.Order.{symbolBy, wordBy, groupSize, symbolPlace, lineOrder}
 use Rattle.line_order.proofs.OrderLaws.{place-group}
 use Rattle.line_order.proofs.word_inside.Statement.{statement}
@@ -16,7 +16,7 @@ abbrev Inv-loop : tie.InvT-loop
 Inv-loop capture w group j r₀ k₀ r k = Filled k (symbolBy lineOrder capture w) r₀ r
 
 abbrev μ-loop : tie.MeasureT-loop
-μ-loop capture w group j r₀ k₀ r k = 16 - k
+μ-loop capture w group j r₀ k₀ r k = wordBytes - k
 
 mul-group : tie.Need-mul-group Inv-loop μ-loop
 mul-group c = search loops

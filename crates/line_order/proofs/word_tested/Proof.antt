@@ -3,6 +3,7 @@ use Prim.Native.Nat.{ℕ, _-_}
 use mathlib.Core.Path.{ap, _∙_}
 use denote.Ref.{now}
 use lib.ListN.{getD}
+use Rattle.sizes.specs.Sizes.{wordBytes}
 use Rattle.bits.proofs.Lists.{Filled, filled-more}
 use Rattle.bits.proofs.LoopLaws.{loops}
 use Rattle.line_order.specs.Order.{symbolBy, wordBy, symbolPlace, lineOrder}
@@ -14,7 +15,7 @@ abbrev Inv-loop : tie.InvT-loop
 Inv-loop capture w r₀ k₀ r k = Filled k (symbolBy lineOrder capture w) r₀ r
 
 abbrev μ-loop : tie.MeasureT-loop
-μ-loop capture w r₀ k₀ r k = 16 - k
+μ-loop capture w r₀ k₀ r k = wordBytes - k
 
 loop-holds : tie.Need-loop-holds Inv-loop μ-loop
 loop-holds c = search loops

@@ -1,16 +1,17 @@
 -- `reader::all_zero` meets its contract. Assumes nothing.
 use borrow.Author.Needs.{needs}
 use Prim.Native.Nat.{_-_}
+use Rattle.sizes.specs.Sizes.{wordBytes}
 use Rattle.bits.proofs.LoopLaws.{Passed, passed-more, loops}
 use Rattle.reading.proofs.Searching.{zero-not, someAt, some-none, some-all}
 use Rattle.reader.proofs.all_zero.Statement.{statement}
 use Rattle.reader.proofs.all_zero.Tie as tie
 
 abbrev Inv-loop : tie.InvT-loop
-Inv-loop word k₀ k = Passed k (someAt word) 16
+Inv-loop word k₀ k = Passed k (someAt word) wordBytes
 
 abbrev μ-loop : tie.MeasureT-loop
-μ-loop word k₀ k = 16 - k
+μ-loop word k₀ k = wordBytes - k
 
 loop-holds : tie.Need-loop-holds Inv-loop μ-loop
 loop-holds c = search loops

@@ -3,6 +3,7 @@ use Prim.Native.Nat.{_-_, _≤_}
 use mathlib.Core.Path.{refl, _∙_}
 use native.Mathlib.Omega.{arith}
 use lib.ListN.{getD}
+use Rattle.sizes.specs.Sizes.{wordBytes}
 use Rattle.bits.proofs.Lists.{Filled, filled-none, filled-more, filled-to}
 use Rattle.bits.proofs.LoopLaws.{loops}
 use Rattle.reading.proofs.Pieces.{zeros-behind}
@@ -10,10 +11,10 @@ use Rattle.reader.proofs.from_bit.Statement.{statement}
 use Rattle.reader.proofs.from_bit.Tie as tie
 
 abbrev Inv-loop : tie.InvT-loop
-Inv-loop i v w₀ k₀ w k = Filled k (λ j. getD v j 0) w₀ w × (k ≤ 16)
+Inv-loop i v w₀ k₀ w k = Filled k (λ j. getD v j 0) w₀ w × (k ≤ wordBytes)
 
 abbrev μ-loop : tie.MeasureT-loop
-μ-loop i v w₀ k₀ w k = 16 - k
+μ-loop i v w₀ k₀ w k = wordBytes - k
 
 loop-holds : tie.Need-loop-holds Inv-loop μ-loop
 loop-holds c = (filled-none, omega arith)
@@ -48,7 +49,7 @@ returns c =
     let a = entry .args in
     c .word-from .ensures
     ∙ zeros-behind (a .t1) (h .w) _ (a .i) (omega arith) (search loops)
-    (filled-to 16 (h .inv .0) (omega (arith, h .inv .1, c .before .before .loop-test .left))) refl
+    (filled-to wordBytes (h .inv .0) (omega (arith, h .inv .1, c .before .before .loop-test .left))) refl
 
 pub from-bit-spec : {M : Type 1} → statement M
 from-bit-spec =
