@@ -1,9 +1,3 @@
--- The demands, proved of the definitions.
-pub mod Allowed
+-- The laws of a part request, and that each contract has one answer.
 pub mod Parting
-pub mod ReadLaws
-pub mod Demand2
-pub mod Undamaged
-pub mod EditLaws
-pub mod Demand3
 pub mod Unique

@@ -1,4 +1,2 @@
--- The customer's demands on captures.
+-- What the entry points of captures answer that no other crate defines.
 pub mod Part
-pub mod Demand2
-pub mod Demand3

@@ -23,10 +23,10 @@ use Rattle.coder.proofs.Judging.{code-rise}
 use Rattle.coder.proofs.Coding.{capture-long}
 use Rattle.reading.specs.Read.{isSeen, readEarlyRows, readLateRows, readAnswer, readLeaves}
 use Rattle.editing.specs.Edit.{listed, listOf, spareSet, editEarlyRows, editLateRows, editAnswer, editLeaves}
-use Rattle.capture.specs.Demand2.{Input, damaged, howMany}
-use Rattle.capture.specs.Demand3.{newInfo, newParity}
-use Rattle.capture.proofs.Demand2.{cap-long, late-done, given-input}
-use Rattle.capture.proofs.Demand3.{later-done, edited-afresh}
+use Rattle.demand_laws.specs.Demand2.{Input, damaged, howMany}
+use Rattle.demand_laws.specs.Demand3.{newInfo, newParity}
+use Rattle.demand_laws.proofs.Demand2.{cap-long, late-done, given-input}
+use Rattle.demand_laws.proofs.Demand3.{later-done, edited-afresh}
 use Rattle.demands.specs.Demands.{choiceOf, damagedAnswer, codeReadAnswer, codeReadLeaves, codedEditAnswer, codeEditAnswer, codeEditLeaves}
 use Rattle.demands.specs.Steps.{hurtBytes}
 use Rattle.demands.proofs.Hurting.{hurt-bytes}

@@ -7,7 +7,7 @@ use native.Mathlib.Omega.{arith}
 use lib.ListN.{length, getD}
 use Rattle.sizes.specs.Sizes.{wordBytes, captureLength, words}
 use Rattle.line_order.proofs.OrderLaws.{each-laid}
-use Rattle.capture.specs.Demand2.{damaged}
+use Rattle.demand_laws.specs.Demand2.{damaged}
 use Rattle.demands.specs.Demands.{choiceOf}
 use Rattle.demands.specs.Steps.{hurtBy, hurtBytes}
 

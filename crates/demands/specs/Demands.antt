@@ -13,8 +13,8 @@ use Rattle.answer.specs.declared.Answer.{Answer}
 use Rattle.sizes.specs.Sizes.{wordBits, words, infoLength, parityLength, captureLength}
 use Rattle.coder.specs.Code.{captureOf, codeAnswer}
 use Rattle.editing.specs.Edit.{listed, listOf, spareSet, editEarlyRows}
-use Rattle.capture.specs.Demand2.{damaged, howMany}
-use Rattle.capture.specs.Demand3.{newInfo, newParity}
+use Rattle.demand_laws.specs.Demand2.{damaged, howMany}
+use Rattle.demand_laws.specs.Demand3.{newInfo, newParity}
 
 -- the choice of bits that a list of numbers makes: entry w for word w, and none past its end
 abbrev pub choiceOf : List ℕ → ℕ → ℕ

@@ -5,7 +5,7 @@ use lib.ListN.{length}
 use Rattle.bits.specs.Loops.{upto}
 use Rattle.sizes.specs.Sizes.{wordBytes}
 use Rattle.line_order.specs.Order.{lineOrder}
-use Rattle.capture.specs.Demand2.{hurt}
+use Rattle.demand_laws.specs.Demand2.{hurt}
 use Rattle.line_order.specs.Steps.{replaceBy}
 use Rattle.demands.specs.Demands.{choiceOf}
 

@@ -13,7 +13,7 @@ ghost use Rattle.coder.specs.Code.{captureOf, codeRows};
 ghost use Rattle.reading.specs.Read.{isSeen, given, readRows};
 ghost use Rattle.editing.specs.Edit.{listed, edited, editRows};
 ghost use Rattle.mapping.specs.RoundTrip.{mapUnmapAnswer, mapUnmapLeaves};
-ghost use Rattle.capture.specs.Demand2.{hurt};
+ghost use Rattle.demand_laws.specs.Demand2.{hurt};
 ghost use Rattle.demands.specs.Demands.{choiceOf, codeReadAnswer, codeReadLeaves, codeEditAnswer, codeEditLeaves};
 ghost use Rattle.demands.specs.Steps.{hurtBytes};
 

@@ -20,7 +20,7 @@ use Rattle.line.specs.Words.{wordsOf, fecIn}
 use Rattle.line.proofs.FecLaws.{fields-info, fields-crc, fields-mbas, fields-parity, fields-bits, fields-all}
 use Rattle.line.proofs.FrameLaws.{element-fec}
 use Rattle.line.proofs.SlotLaws.{held, held-bit}
-use Rattle.editing.specs.Edit.{fecOf, inBlock, blockFrom, replaced, crcChange, newCrc, editedBits, editedFec, elementFec, elementLocal, listed}
+use Rattle.editing.specs.Edit.{fecOf, inBlock, blockFrom, replaced, crcChange, newCrc, keptMbas, editedBits, editedFec, elementFec, elementLocal, listed}
 use Rattle.editing.specs.Edit.{editedWord}
 use Rattle.editing.specs.Steps.{newInfoBit, newBit, newElement, onePeriod, parityElement, remade}
 use Rattle.editing.proofs.Changing.{sequence-from, received-at}
@@ -98,7 +98,7 @@ module _ (b : ℕ) (bits parity : List ℕ) (f : ℕ → ℕ) (k x : ℕ) where
   edited-info : x < 2 → (p : ℕ) → p < infoBits → Meets p
   unfolding editedBits replaced newInfoBit
   edited-info hx p h e =
-      rw (fields-info (replaced b bits f) (newCrc b bits f) (λ j. f (mbasFrom + j)) (bitAt parity) p h, new-info b bits parity (crcChange b bits f) k x p h)
+      rw (fields-info (replaced b bits f) (newCrc b bits f) (keptMbas f) (bitAt parity) p h, new-info b bits parity (crcChange b bits f) k x p h)
       (by (inBlock b p))
     where
       by : (t : Bool) → (cond t (bitAt bits (p - blockFrom b)) (f p) + o k) % 2 ≡ cond t ((bitAt bits (p - blockFrom b) + o k) % 2) x
@@ -108,19 +108,19 @@ module _ (b : ℕ) (bits parity : List ℕ) (f : ℕ → ℕ) (k x : ℕ) where
   edited-crc : x < 2 → (j : ℕ) → j < crcBits → Meets (infoBits + j)
   unfolding editedBits newCrc
   edited-crc hx j h e =
-      rw (fields-crc (replaced b bits f) (newCrc b bits f) (λ j. f (mbasFrom + j)) (bitAt parity) j h, new-crc b bits parity (crcChange b bits f) k x j h)
+      rw (fields-crc (replaced b bits f) (newCrc b bits f) (keptMbas f) (bitAt parity) j h, new-crc b bits parity (crcChange b bits f) k x j h)
       (omega (arith, e))
 
   edited-mbas : x < 2 → (j : ℕ) → j < mbasBits → Meets (mbasFrom + j)
-  unfolding editedBits
+  unfolding editedBits keptMbas
   edited-mbas hx j h e =
-      rw (fields-mbas (replaced b bits f) (newCrc b bits f) (λ j. f (mbasFrom + j)) (bitAt parity) j h, new-mbas b bits parity (crcChange b bits f) k x j h)
+      rw (fields-mbas (replaced b bits f) (newCrc b bits f) (keptMbas f) (bitAt parity) j h, new-mbas b bits parity (crcChange b bits f) k x j h)
       (omega (arith, e))
 
   edited-parity : (j : ℕ) → Meets (parityFrom + j)
   unfolding editedBits
   edited-parity j e =
-      rw (fields-parity (replaced b bits f) (newCrc b bits f) (λ j. f (mbasFrom + j)) (bitAt parity) j, new-parity b bits parity (crcChange b bits f) k x j)
+      rw (fields-parity (replaced b bits f) (newCrc b bits f) (keptMbas f) (bitAt parity) j, new-parity b bits parity (crcChange b bits f) k x j)
 
   pub edited-new : x < 2 → (p : ℕ) → p < fecBits → Meets p
   edited-new hx = fields-all Meets (edited-info hx) (edited-crc hx) (edited-mbas hx) (λ j h. edited-parity j)

@@ -48,8 +48,11 @@ unfoldable pub newCrc : ℕ → List ℕ → (ℕ → ℕ) → ℕ → ℕ
 newCrc b bits f j = (f (infoBits + j) + digit crcBits (crcChange b bits f) j) % 2
 
 -- the MBAS stays, the parity is replaced
+unfoldable pub keptMbas : (ℕ → ℕ) → ℕ → ℕ
+keptMbas f j = f (mbasFrom + j)
+
 unfoldable pub editedBits : ℕ → List ℕ → List ℕ → (ℕ → ℕ) → ℕ → ℕ
-editedBits b bits parity f = fields (replaced b bits f) (newCrc b bits f) (λ j. f (mbasFrom + j)) (bitAt parity)
+editedBits b bits parity f = fields (replaced b bits f) (newCrc b bits f) (keptMbas f) (bitAt parity)
 
 -- FEC blocks with the bits F, that of the client block edited
 unfoldable pub editedFec : ℕ → List ℕ → List ℕ → (ℕ → ℕ → ℕ) → ℕ → ℕ → ℕ

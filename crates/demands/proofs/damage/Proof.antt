@@ -8,7 +8,7 @@ use lib.ListN.{length}
 use borrow.Author.Needs.{needs}
 use Rattle.bits.proofs.LoopLaws.{Folded, folded-none, folded-more, folded-all}
 use Rattle.line_order.specs.Order.{wordIn, lineOrder}
-use Rattle.capture.specs.Demand2.{hurt}
+use Rattle.demand_laws.specs.Demand2.{hurt}
 use Rattle.demands.specs.Demands.{choiceOf}
 use Rattle.demands.specs.Steps.{hurtBy, hurtBytes}
 use Rattle.demands.proofs.damage.Statement.{statement}

@@ -2,7 +2,7 @@
 use borrow.Author.Tests.{lt-ltb, le-ltb}
 use borrow.Author.Needs.{needs}
 use Rattle.hamming.specs.Code.{turn}
-use Rattle.capture.specs.Demand2.{hurt}
+use Rattle.demand_laws.specs.Demand2.{hurt}
 use Rattle.demands.proofs.hurt_word.Statement.{statement}
 use Rattle.demands.proofs.hurt_word.Tie as tie
 

@@ -22,8 +22,8 @@ use Rattle.line_order.proofs.OrderLaws.{laid-words}
 use Rattle.coder.specs.Code.{captureOf}
 use Rattle.coder.proofs.Coding.{capture-long}
 use Rattle.reading.specs.Read.{repaired, isBeyond, isFilled, isSeen, mbasDiffers, readEarlyRows, readLateRows, readAnswer, readLeaves}
-use Rattle.capture.specs.Demand2.{Input, Choice, chosen, hurt, damaged, howMany, ReadsBack}
-use Rattle.capture.proofs.Demand2.{demand-2, no-4, no-5, mbas-read, early-passed-by}
+use Rattle.demand_laws.specs.Demand2.{Input, Choice, chosen, hurt, damaged, howMany, ReadsBack}
+use Rattle.demand_laws.proofs.Demand2.{demand-2, no-4, no-5, mbas-read, early-passed-by}
 
 -- no bit chosen
 abbrev pub unhurt : Choice

@@ -30,13 +30,13 @@ use Rattle.line.proofs.FrameLaws.{super-pad}
 use Rattle.line.proofs.SlotLaws.{held, held-bit, filler-bit}
 use Rattle.line_order.proofs.OrderLaws.{laid-ext, word-laid}
 use Rattle.coder.specs.Code.{captureOf}
-use Rattle.editing.specs.Edit.{fecOf, blockFrom, inBlock, replaced, change, crcChange, newCrc, editedBits, editedFec, touched, elementFec, elementLocal}
+use Rattle.editing.specs.Edit.{fecOf, blockFrom, inBlock, replaced, change, crcChange, newCrc, keptMbas, editedBits, editedFec, touched, elementFec, elementLocal}
 use Rattle.editing.specs.Edit.{listed, editedWord, editedCapture}
 use Rattle.editing.proofs.Listing.{holding-listed}
 use Rattle.editing.proofs.Remaking.{element-of, local-place-lt}
 use Rattle.editing.proofs.Changing.{change-bits}
-use Rattle.capture.specs.Demand3.{newInfo, newParity}
-use Rattle.capture.proofs.ReadLaws.{words-long, fec-read}
+use Rattle.demand_laws.specs.Demand3.{newInfo, newParity}
+use Rattle.demand_laws.proofs.ReadLaws.{words-long, fec-read}
 
 -- ---- the edited input, FEC block by FEC block
 
@@ -166,18 +166,18 @@ module _ (N m0 b : ℕ) (bits parity info par : List ℕ) where
       here-crc = crc-change infoBits (infoBit info t) (infoBit info′ t) (change b bits (F t)) (info-bits info t) (change-bits b bits (F t)) here-change
 
       here : (i : ℕ) → i < fecBits → F′ t i ≡ editedBits b bits parity (F t) i
-      unfolding editedBits newCrc
+      unfolding editedBits keptMbas newCrc
       here =
           fields-all (λ i. F′ t i ≡ editedBits b bits parity (F t) i)
-          (λ i h. fec-info m0 info′ par′ t i h ∙ here-info i h ∙ sym (fields-info (replaced b bits (F t)) (newCrc b bits (F t)) (λ j. F t (mbasFrom + j))
+          (λ i h. fec-info m0 info′ par′ t i h ∙ here-info i h ∙ sym (fields-info (replaced b bits (F t)) (newCrc b bits (F t)) (keptMbas (F t))
           (bitAt parity) i h))
           (λ j h. fec-crc m0 info′ par′ t j h ∙ ap (λ (x : ℕ). digit crcBits x j) here-crc ∙ digit-xor crcBits (blockCrc info t) (crcChange b bits (F t)) j
           ∙ ap (λ (x : ℕ). (x + digit crcBits (crcChange b bits (F t)) j) % 2) (sym (fec-crc m0 info par t j h))
-          ∙ sym (fields-crc (replaced b bits (F t)) (newCrc b bits (F t)) (λ j. F t (mbasFrom + j)) (bitAt parity) j h))
+          ∙ sym (fields-crc (replaced b bits (F t)) (newCrc b bits (F t)) (keptMbas (F t)) (bitAt parity) j h))
           (λ j h. fec-mbas m0 info′ par′ t j h ∙ sym (fec-mbas m0 info par t j h)
-          ∙ sym (fields-mbas (replaced b bits (F t)) (newCrc b bits (F t)) (λ j. F t (mbasFrom + j)) (bitAt parity) j h))
+          ∙ sym (fields-mbas (replaced b bits (F t)) (newCrc b bits (F t)) (keptMbas (F t)) (bitAt parity) j h))
           (λ j h. fec-parity m0 info′ par′ t j ∙ parity-edit N b parity par t j ht h ∙ rw (eq-eqb t (fecOf b) e)
-          (sym (fields-parity (replaced b bits (F t)) (newCrc b bits (F t)) (λ j. F t (mbasFrom + j)) (bitAt parity) j)))
+          (sym (fields-parity (replaced b bits (F t)) (newCrc b bits (F t)) (keptMbas (F t)) (bitAt parity) j)))
 
     -- another block
     module _ (ne : t ≡ fecOf b → ⊥) where
@@ -217,7 +217,7 @@ module _ (b : ℕ) (bits parity : List ℕ) (f g : ℕ → ℕ) (same : (i : ℕ
   crc-same = rem-ext 0 (change b bits f) (change b bits g) infoBits change-same
 
   pub edited-ext : (i : ℕ) → i < fecBits → editedBits b bits parity f i ≡ editedBits b bits parity g i
-  unfolding editedBits newCrc
+  unfolding editedBits keptMbas newCrc
   edited-ext =
       fields-all (λ i. editedBits b bits parity f i ≡ editedBits b bits parity g i)
       (λ i h. at-info f i h ∙ replaced-bit b bits f g i (same i (omega arith)) ∙ sym (at-info g i h))
@@ -225,19 +225,19 @@ module _ (b : ℕ) (bits parity : List ℕ) (f g : ℕ → ℕ) (same : (i : ℕ
       (λ j h. at-mbas f j h ∙ same (mbasFrom + j) (omega arith) ∙ sym (at-mbas g j h))
       (λ j h. at-parity f j ∙ sym (at-parity g j))
     where
-      at-info : (h : ℕ → ℕ) (i : ℕ) → i < infoBits → fields (replaced b bits h) (newCrc b bits h) (λ j. h (mbasFrom + j)) (bitAt parity) i ≡ replaced b bits h i
-      at-info h = fields-info (replaced b bits h) (newCrc b bits h) (λ j. h (mbasFrom + j)) (bitAt parity)
+      at-info : (h : ℕ → ℕ) (i : ℕ) → i < infoBits → fields (replaced b bits h) (newCrc b bits h) (keptMbas h) (bitAt parity) i ≡ replaced b bits h i
+      at-info h = fields-info (replaced b bits h) (newCrc b bits h) (keptMbas h) (bitAt parity)
 
-      at-crc : (h : ℕ → ℕ) (j : ℕ) → j < crcBits → fields (replaced b bits h) (newCrc b bits h) (λ j. h (mbasFrom + j)) (bitAt parity)
+      at-crc : (h : ℕ → ℕ) (j : ℕ) → j < crcBits → fields (replaced b bits h) (newCrc b bits h) (keptMbas h) (bitAt parity)
           (infoBits + j) ≡ newCrc b bits h j
-      at-crc h = fields-crc (replaced b bits h) (newCrc b bits h) (λ j. h (mbasFrom + j)) (bitAt parity)
+      at-crc h = fields-crc (replaced b bits h) (newCrc b bits h) (keptMbas h) (bitAt parity)
 
-      at-mbas : (h : ℕ → ℕ) (j : ℕ) → j < mbasBits → fields (replaced b bits h) (newCrc b bits h) (λ j. h (mbasFrom + j)) (bitAt parity) (mbasFrom + j) ≡ h
+      at-mbas : (h : ℕ → ℕ) (j : ℕ) → j < mbasBits → fields (replaced b bits h) (newCrc b bits h) (keptMbas h) (bitAt parity) (mbasFrom + j) ≡ h
           (mbasFrom + j)
-      at-mbas h = fields-mbas (replaced b bits h) (newCrc b bits h) (λ j. h (mbasFrom + j)) (bitAt parity)
+      at-mbas h = fields-mbas (replaced b bits h) (newCrc b bits h) (keptMbas h) (bitAt parity)
 
-      at-parity : (h : ℕ → ℕ) (j : ℕ) → fields (replaced b bits h) (newCrc b bits h) (λ j. h (mbasFrom + j)) (bitAt parity) (parityFrom + j) ≡ bitAt parity j
-      at-parity h = fields-parity (replaced b bits h) (newCrc b bits h) (λ j. h (mbasFrom + j)) (bitAt parity)
+      at-parity : (h : ℕ → ℕ) (j : ℕ) → fields (replaced b bits h) (newCrc b bits h) (keptMbas h) (bitAt parity) (parityFrom + j) ≡ bitAt parity j
+      at-parity h = fields-parity (replaced b bits h) (newCrc b bits h) (keptMbas h) (bitAt parity)
 
 pub edited-fec-ext : (b : ℕ) (bits parity : List ℕ) (F G : ℕ → ℕ → ℕ) (t : ℕ) → ((i : ℕ) → i < fecBits → F t i ≡ G t i)
     → (i : ℕ) → i < fecBits → editedFec b bits parity F t i ≡ editedFec b bits parity G t i
@@ -255,13 +255,13 @@ or-left true y z e = e
 or-left false y z e = refl
 
 untouched : (b : ℕ) (bits parity : List ℕ) (f : ℕ → ℕ) (i : ℕ) → i < fecBits → touched b i ≡ false → editedBits b bits parity f i ≡ f i
-unfolding editedBits touched replaced
+unfolding editedBits keptMbas touched replaced
 untouched b bits parity f =
     fields-all (λ i. touched b i ≡ false → editedBits b bits parity f i ≡ f i)
-    (λ i h e. fields-info (replaced b bits f) (newCrc b bits f) (λ j. f (mbasFrom + j)) (bitAt parity) i h
+    (λ i h e. fields-info (replaced b bits f) (newCrc b bits f) (keptMbas f) (bitAt parity) i h
     ∙ rw (or-left (inBlock b i) (leb infoBits i && ltb i mbasFrom) (leb parityFrom i) e))
     (λ j h e. absurd (clash (in-crc j h) e))
-    (λ j h e. fields-mbas (replaced b bits f) (newCrc b bits f) (λ j. f (mbasFrom + j)) (bitAt parity) j h)
+    (λ j h e. fields-mbas (replaced b bits f) (newCrc b bits f) (keptMbas f) (bitAt parity) j h)
     (λ j h e. absurd (clash (in-parity j) e))
   where
     or-true : (x y : Bool) → x || true || y ≡ true

@@ -21,9 +21,9 @@ use Rattle.coder.proofs.Coding.{capture-long}
 use Rattle.editing.specs.Edit.{listed, listOf, spareSet, fails, editEarlyRows, editLateRows, editAnswer, edited, editLeaves}
 use Rattle.editing.proofs.Listing.{listed-holding, holding-listed}
 use Rattle.editing.proofs.Promises.{list-is, byte-kept}
-use Rattle.capture.specs.Demand3.{EditInput, newInfo, newParity, Demand3}
-use Rattle.capture.proofs.Demand2.{clean}
-use Rattle.capture.proofs.EditLaws.{coded-words, edit-is-coding}
+use Rattle.demand_laws.specs.Demand3.{EditInput, newInfo, newParity, Demand3}
+use Rattle.demand_laws.proofs.Demand2.{clean}
+use Rattle.demand_laws.proofs.EditLaws.{coded-words, edit-is-coding}
 
 module _ (N m0 b : ℕ) (bits parity info par list : List ℕ) where
   abbrev cap : List ℕ

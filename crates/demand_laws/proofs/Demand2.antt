@@ -40,8 +40,8 @@ use Rattle.coder.specs.Code.{captureOf}
 use Rattle.coder.proofs.Coding.{word-filler}
 use Rattle.reading.specs.Read.{repaired, allZero, isBeyond, isFilled, mbasDiffers, crcDiffers, padDiffers, isSeen, readEarlyRows, readLateRows}
 use Rattle.reading.specs.Read.{readAnswer, given, readLeaves}
-use Rattle.capture.specs.Demand2.{Input, Choice, chosen, hurt, damaged, howMany, Demand2}
-use Rattle.capture.proofs.ReadLaws.{words-long, held-bits, super-read, fec-read}
+use Rattle.demand_laws.specs.Demand2.{Input, Choice, chosen, hurt, damaged, howMany, Demand2}
+use Rattle.demand_laws.proofs.ReadLaws.{words-long, held-bits, super-read, fec-read}
 
 -- ---- a code word with at most one bit turned
 

@@ -13,8 +13,8 @@ use Rattle.sizes.specs.Sizes.{blockBits}
 use Rattle.line.specs.Fec.{mbasAllowed}
 use Rattle.line.proofs.CaptureLaws.{all-frames}
 use Rattle.editing.specs.Edit.{spareSet}
-use Rattle.capture.specs.Demand2.{Input}
-use Rattle.capture.specs.Demand3.{EditInput}
+use Rattle.demand_laws.specs.Demand2.{Input}
+use Rattle.demand_laws.specs.Demand3.{EditInput}
 
 -- "N is 1..8. Information 152,915·N bytes, parity 10,240·N"; "the first number m0, 0..63"
 pub input-all : (N m0 : ℕ) (info par : List ℕ) → 1 ≤ N → N ≤ 8 → m0 ≤ 63 → length info ≡ 152915 * N → Bytes info → length par ≡ 10240 * N → Bytes par

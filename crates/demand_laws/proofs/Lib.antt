@@ -1,0 +1,7 @@
+-- The demands, proved of the definitions.
+pub mod Allowed
+pub mod ReadLaws
+pub mod Demand2
+pub mod Undamaged
+pub mod EditLaws
+pub mod Demand3
