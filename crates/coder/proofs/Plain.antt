@@ -15,7 +15,7 @@ use Rattle.crc.specs.Steps.{entries, crcBy}
 use Rattle.crc.proofs.Changes.{crc-ext}
 use Rattle.crc.proofs.Bytewise.{bytes-crc}
 use Rattle.sizes.specs.Sizes.{infoBits, crcBits, mbasFrom, parityBits, parityFrom, fecBits, elementBits, superElements, fecElements, infoBytes, infoElements}
-use Rattle.sizes.specs.Sizes.{wordBytes}
+use Rattle.sizes.specs.Sizes.{wordBytes, fecBlocks}
 use Rattle.line.specs.Fec.{fecBit, infoBit, parityBit, blockCrc, mbasOf}
 use Rattle.line.specs.Frames.{superOf}
 use Rattle.line.proofs.FecLaws.{fec-info, fec-crc, fec-mbas, fec-parity}
@@ -25,12 +25,12 @@ use Rattle.coder.proofs.Tails.{tail-low, tail-mid, tail-high, tail-bits
 
 -- ---- which layer an element's bits are of
 
-pub plain-pad : (F : ℕ → ℕ → ℕ) (e : ℕ) → 10970 ≤ e % superElements → Agree (bitAt (replicate wordBytes 0)) (plainBit F e)
+pub plain-pad : (F : ℕ → ℕ → ℕ) (e : ℕ) → fecElements * fecBlocks ≤ e % superElements → Agree (bitAt (replicate wordBytes 0)) (plainBit F e)
 unfolding plainBit
 plain-pad F e h i l = bitOf-zeros 8 wordBytes i ∙ sym (super-pad F (e / superElements) (elementBits * (e % superElements) + i) (omega arith))
 
 -- the FEC block and the local element of element e
-pub plain-fec : (F : ℕ → ℕ → ℕ) (e i : ℕ) → e % superElements < 10970 → i < elementBits
+pub plain-fec : (F : ℕ → ℕ → ℕ) (e i : ℕ) → e % superElements < fecElements * fecBlocks → i < elementBits
     → plainBit F e i ≡ F (5 * (e / superElements) + e % superElements / fecElements) (elementBits * (e % superElements % fecElements) + i)
 unfolding plainBit
 plain-fec F e i h l =
@@ -84,7 +84,7 @@ agree-packed r g h b e a i l = ap (λ (s : List ℕ). bitAt s i) e ∙ bitOf-pac
 pub from-bits : (s : List ℕ) (a : ℕ) → Bits (from (bitAt s) a)
 from-bits s a i = bitOf-lt 8 s (a + i)
 
-module _ (m0 : ℕ) (info par r : List ℕ) (e : ℕ) (no-pad : e % superElements < 10970) where
+module _ (m0 : ℕ) (info par r : List ℕ) (e : ℕ) (no-pad : e % superElements < fecElements * fecBlocks) where
   abbrev block : ℕ
   block = 5 * (e / superElements) + e % superElements / fecElements
 

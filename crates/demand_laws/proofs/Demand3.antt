@@ -72,7 +72,8 @@ module _ (N m0 b : ℕ) (bits parity info par list : List ℕ) where
     edit-answers : editAnswer N b bits parity cap list ≡ done listedCount
     unfolding editAnswer
     edit-answers =
-        early-passed (editEarlyRows N b (length bits) (length parity) (length cap) (length list) (spareSet bits)) (editLateRows N b cap) listedCount first-passed
+        early-passed (editEarlyRows N b (length bits) (length parity) (length cap) (length list) (spareSet bits)) (editLateRows N b cap) listedCount
+        first-passed
         ∙ later-done
 
     edit-leaves : editLeaves N b bits parity cap list ≡ afresh

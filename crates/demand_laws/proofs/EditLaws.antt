@@ -30,8 +30,8 @@ use Rattle.line.proofs.FrameLaws.{super-pad}
 use Rattle.line.proofs.SlotLaws.{held, held-bit, filler-bit}
 use Rattle.line_order.proofs.OrderLaws.{laid-ext, word-laid}
 use Rattle.coder.specs.Code.{captureOf}
-use Rattle.editing.specs.Edit.{fecOf, blockFrom, inBlock, replaced, change, crcChange, newCrc, keptMbas, editedBits, editedFec, touched, elementFec, elementLocal}
-use Rattle.editing.specs.Edit.{listed, editedWord, editedCapture}
+use Rattle.editing.specs.Edit.{fecOf, blockFrom, inBlock, replaced, change, crcChange, newCrc, keptMbas, editedBits, editedFec, touched, elementFec}
+use Rattle.editing.specs.Edit.{elementLocal, listed, editedWord, editedCapture}
 use Rattle.editing.proofs.Listing.{holding-listed}
 use Rattle.editing.proofs.Remaking.{element-of, local-place-lt}
 use Rattle.editing.proofs.Changing.{change-bits}

@@ -27,7 +27,8 @@ use Rattle.demand_laws.specs.Demand2.{Input, damaged, howMany}
 use Rattle.demand_laws.specs.Demand3.{newInfo, newParity}
 use Rattle.demand_laws.proofs.Demand2.{cap-long, late-done, given-input}
 use Rattle.demand_laws.proofs.Demand3.{later-done, edited-afresh}
-use Rattle.demands.specs.Demands.{choiceOf, damagedAnswer, codeReadAnswer, codeReadLeaves, codedEditAnswer, codeEditAnswer, codeEditLeaves}
+use Rattle.demands.specs.Demands.{choiceOf, damagedAnswer, codeReadAnswer, codeReadLeaves, CodesAndReads}
+use Rattle.demands.specs.Demands.{codedEditAnswer, codeEditAnswer, codeEditLeaves, CodesAndEdits}
 use Rattle.demands.specs.Steps.{hurtBytes}
 use Rattle.demands.proofs.Hurting.{hurt-bytes}
 
@@ -65,7 +66,8 @@ module _ (N m0 b : ℕ) (info par bits parity list : List ℕ) where
 
   edit-leaves-any : editLeaves N b bits parity (captureOf N m0 info par) list
       ≡ written (codedEditAnswer N b bits parity list)
-      (captureOf N m0 (newInfo N b bits info) (newParity N b parity par), listOf N b ++ drop (count (listed N b) (words N)) list) (captureOf N m0 info par, list)
+      (captureOf N m0 (newInfo N b bits info) (newParity N b parity par), listOf N b ++ drop (count (listed N b) (words N)) list)
+      (captureOf N m0 info par, list)
   unfolding editLeaves
   edit-leaves-any = rw (edit-any, edited-afresh N m0 b bits parity info par list)
 
@@ -105,15 +107,13 @@ module _ (N m0 : ℕ) (info par cap : List ℕ) {m : Answer} {out : List ℕ}
 
   module _ (flips info₀ par₀ : List ℕ) where
     pub read-stops : (m .number ≡ allDone → ⊥)
-        → Outcome {B = List ℕ × (List ℕ × List ℕ)} (codeReadAnswer N m0 info par flips cap info₀ par₀) (codeReadLeaves N m0 info par flips cap info₀ par₀) m
-        (out, (info₀, par₀))
+        → CodesAndReads N m0 info par flips cap info₀ par₀ m (out, (info₀, par₀))
     unfolding codeReadAnswer codeReadLeaves
     read-stops h = stops-there _ _ (coding .told) h (ap (λ (s : List ℕ). (s, (info₀, par₀))) (refused-kept h))
 
     pub read-follows : {hurt : List ℕ} {r : Answer} {left : List ℕ × List ℕ} → Bytes info → Bytes par → m .number ≡ allDone → hurt ≡ hurtBytes flips out
         → Outcome (readAnswer N m0 hurt info₀ par₀) (readLeaves N m0 hurt info₀ par₀) r left
-        → Outcome {B = List ℕ × (List ℕ × List ℕ)} (codeReadAnswer N m0 info par flips cap info₀ par₀) (codeReadLeaves N m0 info par flips cap info₀ par₀) r
-        (hurt, left)
+        → CodesAndReads N m0 info par flips cap info₀ par₀ r (hurt, left)
     unfolding codeReadAnswer codeReadLeaves
     read-follows {hurt} bi bp z turned o =
         let made = coded z in
@@ -129,13 +129,13 @@ module _ (N m0 : ℕ) (info par cap : List ℕ) {m : Answer} {out : List ℕ}
 
   module _ (b : ℕ) (bits parity list : List ℕ) where
     pub edit-stops : (m .number ≡ allDone → ⊥)
-        → Outcome {B = List ℕ × List ℕ} (codeEditAnswer N m0 b info par bits parity cap list) (codeEditLeaves N m0 b info par bits parity cap list) m (out, list)
+        → CodesAndEdits N m0 b info par bits parity cap list m (out, list)
     unfolding codeEditAnswer codeEditLeaves
     edit-stops h = stops-there _ _ (coding .told) h (ap (λ (s : List ℕ). (s, list)) (refused-kept h))
 
     pub edit-follows : {r : Answer} {left : List ℕ × List ℕ} → m .number ≡ allDone
         → Outcome (editAnswer N b bits parity out list) (editLeaves N b bits parity out list) r left
-        → Outcome (codeEditAnswer N m0 b info par bits parity cap list) (codeEditLeaves N m0 b info par bits parity cap list) r left
+        → CodesAndEdits N m0 b info par bits parity cap list r left
     unfolding codeEditAnswer codeEditLeaves
     edit-follows z o =
         let q = coded z in

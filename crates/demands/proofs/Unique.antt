@@ -1,4 +1,5 @@
--- Each contract of the client has one answer and one content of lent memory: a client that refuses always, never or at random does not meet them. `Post` is the contract's own `ensures`. Assumes nothing.
+-- Each contract of the client has one answer and one content of lent memory: a client that refuses always, never or at random does not meet them.
+-- `Post` is the contract's own `ensures`. Assumes nothing.
 use Prim.Native.Nat.{ℕ}
 use mathlib.Core.Path.{_≡_}
 use mathlib.Core.List.{List}

@@ -8,7 +8,7 @@ use lib.ListN.{length, getD, drop}
 use Rattle.bits.specs.Loops.{count}
 use Rattle.answer.specs.Numbers.{wrongLength}
 use Rattle.answer.specs.Rows.{buffers, wrong, answerOf}
-use Rattle.answer.specs.Outcomes.{written, andThen}
+use Rattle.answer.specs.Outcomes.{Outcome, written, andThen}
 use Rattle.answer.specs.declared.Answer.{Answer}
 use Rattle.sizes.specs.Sizes.{wordBits, words, infoLength, parityLength, captureLength}
 use Rattle.coder.specs.Code.{captureOf, codeAnswer}
@@ -41,6 +41,10 @@ codeReadLeaves N m0 info par flips cap info₀ par₀ =
     )
     (cap, (info₀, par₀))
 
+abbrev pub CodesAndReads : ℕ → ℕ → List ℕ → List ℕ → List ℕ → List ℕ → List ℕ → List ℕ → Answer → List ℕ × (List ℕ × List ℕ) → Type 0
+CodesAndReads N m0 info par flips cap info₀ par₀ r left =
+    Outcome (codeReadAnswer N m0 info par flips cap info₀ par₀) (codeReadLeaves N m0 info par flips cap info₀ par₀) r left
+
 -- what an edit answers to a capture that was coded: the capture has its length, and number 9 does not apply
 unfoldable pub codedEditAnswer : ℕ → ℕ → List ℕ → List ℕ → List ℕ → Answer
 codedEditAnswer N b bits parity list =
@@ -58,3 +62,7 @@ codeEditLeaves N m0 b info par bits parity cap list =
     (captureOf N m0 (newInfo N b bits info) (newParity N b parity par), listOf N b ++ drop (count (listed N b) (words N)) list)
     (captureOf N m0 info par, list))
     (cap, list)
+
+abbrev pub CodesAndEdits : ℕ → ℕ → ℕ → List ℕ → List ℕ → List ℕ → List ℕ → List ℕ → List ℕ → Answer → List ℕ × List ℕ → Type 0
+CodesAndEdits N m0 b info par bits parity cap list r left =
+    Outcome (codeEditAnswer N m0 b info par bits parity cap list) (codeEditLeaves N m0 b info par bits parity cap list) r left

@@ -14,7 +14,7 @@ ghost use Rattle.reading.specs.Read.{isSeen, given, readRows};
 ghost use Rattle.editing.specs.Edit.{listed, edited, editRows};
 ghost use Rattle.mapping.specs.RoundTrip.{mapUnmapAnswer, mapUnmapLeaves};
 ghost use Rattle.demand_laws.specs.Demand2.{hurt};
-ghost use Rattle.demands.specs.Demands.{choiceOf, codeReadAnswer, codeReadLeaves, codeEditAnswer, codeEditLeaves};
+ghost use Rattle.demands.specs.Demands.{choiceOf, CodesAndReads, CodesAndEdits};
 ghost use Rattle.demands.specs.Steps.{hurtBytes};
 
 // Demand 1 of coding.
@@ -61,10 +61,8 @@ pub fn code_damage_read(
     back: &mut [u8],
     parity_back: &mut [u8],
 ) -> Answer
-    ensures { λ r. ⌜ Outcome {B = List ℕ × (List ℕ × List ℕ)}
-        (codeReadAnswer n m0 (now (info .entry)) (now (parity .entry)) (now (flips .entry)) (now (capture .entry)) (now (back .entry)) (now («parity_back» .entry)))
-        (codeReadLeaves n m0 (now (info .entry)) (now (parity .entry)) (now (flips .entry)) (now (capture .entry)) (now (back .entry)) (now («parity_back» .entry)))
-        r (now (capture .exit), (now (back .exit), now («parity_back» .exit))) ⌝ }
+    ensures { λ r. ⌜ CodesAndReads n m0 (now (info .entry)) (now (parity .entry)) (now (flips .entry)) (now (capture .entry)) (now (back .entry))
+        (now («parity_back» .entry)) r (now (capture .exit), (now (back .exit), now («parity_back» .exit))) ⌝ }
 {
     let coded = capture::code(n, m0, info, parity, capture);
     if coded.number != 0 {
@@ -117,10 +115,8 @@ pub fn code_edit(
     capture: &mut [u8],
     list: &mut [u64],
 ) -> Answer
-    ensures { λ r. ⌜ Outcome {B = List ℕ × List ℕ}
-        (codeEditAnswer n m0 block (now (info .entry)) (now (parity .entry)) (now (bits .entry)) (now («new_parity» .entry)) (now (capture .entry)) (now (list .entry)))
-        (codeEditLeaves n m0 block (now (info .entry)) (now (parity .entry)) (now (bits .entry)) (now («new_parity» .entry)) (now (capture .entry)) (now (list .entry)))
-        r (now (capture .exit), now (list .exit)) ⌝ }
+    ensures { λ r. ⌜ CodesAndEdits n m0 block (now (info .entry)) (now (parity .entry)) (now (bits .entry)) (now («new_parity» .entry)) (now (capture .entry))
+        (now (list .entry)) r (now (capture .exit), now (list .exit)) ⌝ }
 {
     let coded = capture::code(n, m0, info, parity, capture);
     if coded.number != 0 {

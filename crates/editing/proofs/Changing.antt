@@ -19,7 +19,7 @@ use Rattle.line_order.specs.Order.{symbolPlace, wordIn}
 use Rattle.line.specs.Words.{elementFrom, superIn, fecIn}
 use Rattle.line_order.proofs.OrderLaws.{word-symbol}
 use Rattle.editing.specs.Edit.{blockFrom, inBlock, replaced, change, crcChange, elementFec, elementLocal}
-use Rattle.editing.specs.Steps.{onePeriod}
+use Rattle.editing.specs.Steps.{periodBytes, onePeriod}
 use Rattle.scrambler.specs.Steps.{period}
 use Rattle.editing.proofs.Touching.{block-in, block-before, block-past}
 
@@ -28,7 +28,7 @@ use Rattle.editing.proofs.Touching.{block-in, block-before, block-past}
 -- the sequence, from the one period that was made: bit k, and the bits from there on
 pub sequence-from : (scr : List ℕ) (k i : ℕ) → scr ≡ onePeriod → i < wordBits → bitAt scr (k % period + i) ≡ o (k + i)
 sequence-from scr k i e h =
-    ap (λ (s : List ℕ). bitAt s (k % period + i)) e ∙ bitOf-packs 8 8208 o (k % period + i) o-lt (omega arith) ∙ within-period k i
+    ap (λ (s : List ℕ). bitAt s (k % period + i)) e ∙ bitOf-packs 8 periodBytes o (k % period + i) o-lt (omega arith) ∙ within-period k i
 
 pub sequence-bit : (scr : List ℕ) (k : ℕ) → scr ≡ onePeriod → bitAt scr (k % period) ≡ o k
 sequence-bit scr k e = ap (bitAt scr) (sym (add-zero (k % period))) ∙ sequence-from scr k 0 e (omega arith) ∙ ap o (add-zero k)

@@ -11,7 +11,7 @@ use Rattle.bits.specs.Loops.{count}
 use Rattle.bits.proofs.Common.{clash, and-left, and-right}
 use Rattle.hamming.specs.Code.{checksOf}
 use Rattle.line_order.specs.Order.{wordIn}
-use Rattle.sizes.specs.Sizes.{fecBlocks, elementBits, superElements, fecElements, infoElements, words, blocksOf}
+use Rattle.sizes.specs.Sizes.{fecBlocks, elementBits, superElements, fecElements, infoElements, words, blocksOf, tailElements}
 use Rattle.line.specs.Slots.{slotOf, delay, elementIn, holds}
 use Rattle.line.proofs.SlotLaws.{held}
 use Rattle.editing.specs.Edit.{fecOf, blockFrom, elementFec, elementLocal, isPad, touches, listed, fails}
@@ -71,22 +71,22 @@ fails-listed N b cap w h = rw h
 
 -- the k-th of the elements that hold a touched bit, within their FEC block: first the last 138, then the client block's own
 unfoldable pub own : ℕ → ℕ → ℕ
-own b k = cond (ltb k 138) (infoElements + k) (blockFrom b / elementBits + (k - 138))
+own b k = cond (ltb k tailElements) (infoElements + k) (blockFrom b / elementBits + (k - tailElements))
 
 unfoldable pub slotNo : ℕ → ℕ → ℕ
 slotNo b k = slotOf (firstElement b + own b k)
 
-pub own-tail : (b k : ℕ) → k < 138 → own b k ≡ infoElements + k
+pub own-tail : (b k : ℕ) → k < tailElements → own b k ≡ infoElements + k
 unfolding own
-own-tail b k h = rw (lt-ltb k 138 h)
+own-tail b k h = rw (lt-ltb k tailElements h)
 
-pub own-block : (b j : ℕ) → own b (138 + j) ≡ blockFrom b / elementBits + j
+pub own-block : (b j : ℕ) → own b (tailElements + j) ≡ blockFrom b / elementBits + j
 unfolding own
-own-block b j = let e : 138 + j - 138 ≡ j = omega arith in rw (le-ltb (138 + j) 138 (omega arith), e)
+own-block b j = let e : tailElements + j - tailElements ≡ j = omega arith in rw (le-ltb (tailElements + j) tailElements (omega arith), e)
 
 -- how many of them: 141, or 142 where the client block lies in four elements
 unfoldable pub listedCount : ℕ → ℕ
-listedCount b = 138 + suc ((blockFrom b + 256) / elementBits - blockFrom b / elementBits)
+listedCount b = tailElements + suc ((blockFrom b + 256) / elementBits - blockFrom b / elementBits)
 
 -- the element by its FEC block and its local number
 element-is : (b e : ℕ) → e % superElements < fecElements * fecBlocks → elementFec e ≡ fecOf b → e ≡ firstElement b + elementLocal e
@@ -102,13 +102,13 @@ unfolding listedCount
 own-of b m h t = by (decLt m infoElements) (decLt m (blockFrom b / elementBits)) (decLt ((blockFrom b + 256) / elementBits) m)
   where
     by : Dec (m < infoElements) → Dec (m < blockFrom b / elementBits) → Dec ((blockFrom b + 256) / elementBits < m)
-        → In (own b) (138 + suc ((blockFrom b + 256) / elementBits - blockFrom b / elementBits)) m
+        → In (own b) (tailElements + suc ((blockFrom b + 256) / elementBits - blockFrom b / elementBits)) m
     by (no l) x y =
         record { index = m - infoElements; within = omega arith; is = sym (own-tail b (m - infoElements) (omega arith) ∙ (omega arith)) }
     by (yes l) (yes x) y = absurd (clash t (element-before b m l x))
     by (yes l) (no x) (yes y) = absurd (clash t (element-past b m l y))
     by (yes l) (no x) (no y) =
-        record { index = 138 + (m - blockFrom b / elementBits); within = omega arith; is = sym (own-block b (m - blockFrom b / elementBits) ∙ (omega arith)) }
+        let j = m - blockFrom b / elementBits in record { index = tailElements + j; within = omega arith; is = sym (own-block b j ∙ (omega arith)) }
 
 pub local-lt : (e : ℕ) → elementLocal e < fecElements
 unfolding elementLocal
@@ -199,13 +199,13 @@ module _ (N b w m : ℕ) (l : m < fecElements) (e : elementIn w ≡ firstElement
 
 own-from : (b k : ℕ) → k < listedCount b → (blockFrom b / elementBits ≤ own b k) × (own b k < fecElements)
 unfolding listedCount
-own-from b k h = by (decLt k 138)
+own-from b k h = by (decLt k tailElements)
   where
-    by : Dec (k < 138) → (blockFrom b / elementBits ≤ own b k) × (own b k < fecElements)
+    by : Dec (k < tailElements) → (blockFrom b / elementBits ≤ own b k) × (own b k < fecElements)
     by (yes l) = rw (own-tail b k l) (omega arith, omega arith)
     by (no l) =
-        let e : k ≡ 138 + (k - 138) = omega arith in
-        rw e (rw (own-block b (k - 138)) (omega arith, omega arith))
+        let e : k ≡ tailElements + (k - tailElements) = omega arith in
+        rw e (rw (own-block b (k - tailElements)) (omega arith, omega arith))
 
 pub record Within (b w : ℕ) : Type 0 where
   pub above : stretchFrom b ≤ w

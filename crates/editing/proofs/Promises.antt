@@ -8,7 +8,7 @@ use native.Mathlib.Omega.{arith}
 use lib.ListN.{getD}
 use Rattle.bits.specs.Loops.{count}
 use Rattle.bits.proofs.Common.{by-bound}
-use Rattle.sizes.specs.Sizes.{elementBits, fecElements, infoElements, captureLength, words, blocksOf}
+use Rattle.sizes.specs.Sizes.{elementBits, fecElements, infoElements, captureLength, words, blocksOf, tailElements}
 use Rattle.line.specs.Slots.{slotOf, elementIn}
 use Rattle.line_order.specs.Order.{wordAt, symbolAt, wordIn}
 use Rattle.line.specs.Words.{wordsOf, fecIn}
@@ -29,26 +29,26 @@ use Rattle.editing.proofs.Passes.{edited-long, edited-kept}
 own-lt : (b k : ℕ) → k < listedCount b → own b k < fecElements
 unfolding listedCount
 own-lt b k h =
-    by-bound 138 k (λ l. rw (own-tail b k l) (omega arith))
-    (λ l. let e : k ≡ 138 + (k - 138) = omega arith in rw (e, own-block b (k - 138)) (omega arith))
+    by-bound tailElements k (λ l. rw (own-tail b k l) (omega arith))
+    (λ l. let e : k ≡ tailElements + (k - tailElements) = omega arith in rw (e, own-block b (k - tailElements)) (omega arith))
 
 own-touched : (b k : ℕ) → k < listedCount b → touches b (elementBits * own b k) elementBits ≡ true
 unfolding listedCount
 own-touched b k h =
-    by-bound 138 k (λ l. rw (own-tail b k l) (element-tail b (infoElements + k) (omega arith)))
-    (λ l. let e : k ≡ 138 + (k - 138) = omega arith in
-    rw (e, own-block b (k - 138)) (element-block b (blockFrom b / elementBits + (k - 138)) (omega arith) (omega arith)))
+    by-bound tailElements k (λ l. rw (own-tail b k l) (element-tail b (infoElements + k) (omega arith)))
+    (λ l. let e : k ≡ tailElements + (k - tailElements) = omega arith in
+    rw (e, own-block b (k - tailElements)) (element-block b (blockFrom b / elementBits + (k - tailElements)) (omega arith) (omega arith)))
 
 own-differ : (b i j : ℕ) → i < j → j < listedCount b → own b i ≡ own b j → ⊥
 unfolding listedCount
 own-differ b i j h l q =
-    by-bound 138 j
+    by-bound tailElements j
     (λ m. let p = own-tail b i (omega arith) in let r = own-tail b j m in omega (arith, p, r))
-    (λ m. let e : j ≡ 138 + (j - 138) = omega arith in
-    let r : own b j ≡ blockFrom b / elementBits + (j - 138) = ap (own b) e ∙ own-block b (j - 138) in
-    by-bound 138 i (λ n. let p = own-tail b i n in omega (arith, p, r))
-    (λ n. let d : i ≡ 138 + (i - 138) = omega arith in
-    let p : own b i ≡ blockFrom b / elementBits + (i - 138) = ap (own b) d ∙ own-block b (i - 138) in
+    (λ m. let e : j ≡ tailElements + (j - tailElements) = omega arith in
+    let r : own b j ≡ blockFrom b / elementBits + (j - tailElements) = ap (own b) e ∙ own-block b (j - tailElements) in
+    by-bound tailElements i (λ n. let p = own-tail b i n in omega (arith, p, r))
+    (λ n. let d : i ≡ tailElements + (i - tailElements) = omega arith in
+    let p : own b i ≡ blockFrom b / elementBits + (i - tailElements) = ap (own b) d ∙ own-block b (i - tailElements) in
     omega (arith, p, r)))
 
 module _ (N b : ℕ) (within : b < blocksOf N) where

@@ -68,8 +68,11 @@ remade b bits parity crc w old = coded (newElement b bits parity crc (elementIn 
 
 -- ---- what is made once and lent: one period of the scrambler's sequence, and a word's bits more; and the code's two tables
 
+abbrev pub periodBytes : ℕ
+periodBytes = 8208
+
 abbrev pub onePeriod : List ℕ
-onePeriod = pack 8208 o
+onePeriod = pack periodBytes o
 
 pub record Lent (scr t tails : List ℕ) : Type 0 where
   pub sequence : scr ≡ onePeriod

@@ -437,7 +437,8 @@ fn rewrite(
     capture: &mut [u8],
     list: &mut [u64],
 ) -> usize
-    requires { ⌜ (Lent (now scr) (now t) (now tails)) × (n ≤ mostFrames) × (b < blocksOf n) × (crc ≡ crcChange b (now bits) (fecIn (wordIn (now capture)) (fecOf b)))
+    requires { ⌜ (Lent (now scr) (now t) (now tails)) × (n ≤ mostFrames) × (b < blocksOf n)
+        × (crc ≡ crcChange b (now bits) (fecIn (wordIn (now capture)) (fecOf b)))
         × (length (now capture) ≡ captureLength n) × (length (now list) ≡ listLength) ⌝ }
     ensures { λ r. ⌜ Passing n b (now (bits .entry)) (now (parity .entry)) (now (capture .entry)) (now (list .entry)) (words n) (now (capture .exit))
         (now (list .exit)) r ⌝ }

@@ -11,7 +11,7 @@ use Rattle.bits.specs.Bits.{tabulate, num, digit, bitAt, Bits, Bytes}
 use Rattle.bits.proofs.Lists.{is-table, getD-tabulate}
 use Rattle.bits.proofs.Numbers.{num-ext, num-front, num-back, num-digit, num-more, digit-lt}
 use Rattle.bits.proofs.Packing.{bitOf-lt, bitOf-at, num-bitOf}
-use Rattle.sizes.specs.Sizes.{checkBits, wordBytes}
+use Rattle.sizes.specs.Sizes.{checkBits, wordBytes, checkValues}
 use Rattle.matrix.specs.Columns.{columns, columnOf}
 use Rattle.matrix.specs.Sums.{sumTo, taken, tailSum, tailOf}
 use Rattle.hamming.specs.Code.{checksOf, elementSum, joined, joinedWord, coded}
@@ -47,7 +47,7 @@ word-closed f b = ap (λ (c : ℕ). joinedWord f (tailOf c)) (checks-alone f b)
 
 -- ---- the two bytes that hold the check bits
 
-module _ (e : List ℕ) (p : ℕ) (long : length e ≡ wordBytes) (bytes : Bytes e) (small : p < 512) where
+module _ (e : List ℕ) (p : ℕ) (long : length e ≡ wordBytes) (bytes : Bytes e) (small : p < checkValues) where
   front-byte : (k : ℕ) → k < 14 → getD e k 0 ≡ num 8 (joined (bitAt e) p) (8 * k)
   front-byte k h =
       sym (num-bitOf 8 e k (bytes k))

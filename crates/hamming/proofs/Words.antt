@@ -13,7 +13,7 @@ use Rattle.bits.proofs.Common.{by-bound, xor-none}
 use Rattle.bits.proofs.Lists.{getD-tabulate, getD-past}
 use Rattle.bits.proofs.Numbers.{num-lt, digit-num, digit-lt}
 use Rattle.bits.proofs.Packing.{bitOf-lt, bitOf-packs, length-packs, packs-bitOf, packs-ext}
-use Rattle.sizes.specs.Sizes.{elementBits, wordBits, checkBits, wordBytes}
+use Rattle.sizes.specs.Sizes.{elementBits, wordBits, checkBits, wordBytes, checkValues}
 use Rattle.matrix.specs.Sums.{taken, tailSum, tailOf}
 use Rattle.hamming.specs.Code.{checksOf, elementSum, joined, joinedWord, coded, wordOf}
 use Rattle.matrix.proofs.Sums.{sum-same, sum-zero, sum-lt, sum-split, taken-same, taken-none, taken-lt}
@@ -58,20 +58,21 @@ checks-joined f p b =
     (λ j h. taken-same 0 elementBits v (digit checkBits p) (elementBits + j) j (joined-bit f p (elementBits + j) b (omega arith) ∙ joined-high f p j)
     (omega arith)))
 
-pub element-lt : (f : ℕ → ℕ) → Bits f → elementSum f < 512
+pub element-lt : (f : ℕ → ℕ) → Bits f → elementSum f < checkValues
 unfolding elementSum
 element-lt f b =
-    sum-lt checkBits (taken 0 f) elementBits (lit< tt) (λ i h. taken-lt 0 f i 512 b (rw (zero-add i) (column-lt i (omega arith))))
+    sum-lt checkBits (taken 0 f) elementBits (lit< tt) (λ i h. taken-lt 0 f i checkValues b (rw (zero-add i) (column-lt i (omega arith))))
 
-pub tail-sum-lt : (p : ℕ) → tailSum p < 512
+pub tail-sum-lt : (p : ℕ) → tailSum p < checkValues
 unfolding tailSum
 tail-sum-lt p =
     sum-lt checkBits (taken elementBits (digit checkBits p)) checkBits (lit< tt)
-    (λ j h. taken-lt elementBits (digit checkBits p) j 512 (digit-lt checkBits p) (column-lt (elementBits + j) (omega arith)))
+    (λ j h. taken-lt elementBits (digit checkBits p) j checkValues (digit-lt checkBits p) (column-lt (elementBits + j) (omega arith)))
 
-pub checks-lt : (w : List ℕ) → checksOf w < 512
+pub checks-lt : (w : List ℕ) → checksOf w < checkValues
 unfolding checksOf
-checks-lt w = sum-lt checkBits (taken 0 (bitAt w)) wordBits (lit< tt) (λ i h. taken-lt 0 (bitAt w) i 512 (bitOf-lt 8 w) (rw (zero-add i) (column-lt i h)))
+checks-lt w =
+    sum-lt checkBits (taken 0 (bitAt w)) wordBits (lit< tt) (λ i h. taken-lt 0 (bitAt w) i checkValues (bitOf-lt 8 w) (rw (zero-add i) (column-lt i h)))
 
 -- ---- the code word
 
@@ -125,7 +126,7 @@ module _ (w : List ℕ) (long : length w ≡ wordBytes) (bytes : Bytes w) where
       sym (packs-bitOf 8 w bytes) ∙ ap (λ (n : ℕ). packs 8 n (bitAt w)) long
       ∙ packs-ext 8 wordBytes (bitAt w) (joined (bitAt w) tail-bits) joined-own
 
-  tail-small : tail-bits < 512
+  tail-small : tail-bits < checkValues
   unfolding tail-bits
   tail-small = num-lt checkBits (bitAt w) elementBits (bitOf-lt 8 w)
 

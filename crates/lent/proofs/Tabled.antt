@@ -8,7 +8,7 @@ use lib.ListN.{getD}
 use Rattle.bits.specs.Bits.{bitAt, Bytes}
 use Rattle.bits.proofs.Lists.{getD-tabulate}
 use Rattle.bits.proofs.Packing.{bitOf-lt}
-use Rattle.sizes.specs.Sizes.{wordBytes}
+use Rattle.sizes.specs.Sizes.{wordBytes, checkValues}
 use Rattle.matrix.specs.Columns.{positionOf}
 use Rattle.matrix.specs.Sums.{tailOf}
 use Rattle.hamming.specs.Code.{checksOf, elementSum, joined, joinedWord, coded, wordOf}
@@ -41,12 +41,12 @@ by-word t tails e p q =
     let c : sumBy t (joinedWord f 0) ≡ elementSum f = by-checks t (joinedWord f 0) p (pack-bytes (joined f 0) (joined-lt f 0 b)) ∙ checks-alone f b in
     let h = element-lt f b in
     ap (joinedWord f)
-    (ap₂ (λ (l : List ℕ) (x : ℕ). getD l x 0 % 512) q c
-    ∙ ap (λ (x : ℕ). x % 512) (getD-tabulate 0 512 tailOf (elementSum f) h)
+    (ap₂ (λ (l : List ℕ) (x : ℕ). getD l x 0 % checkValues) q c
+    ∙ ap (λ (x : ℕ). x % checkValues) (getD-tabulate 0 checkValues tailOf (elementSum f) h)
     ∙ mod-eq-of-lt (tail-lt (elementSum f) h))
 
 pub by-known : (positions w : List ℕ) (c : ℕ) → positions ≡ positionTable → c ≡ checksOf w → repairAt w c (getD positions c 0) ≡ repairOf w
 unfolding repairOf
 by-known positions w c q e =
     ap₂ (λ (l : List ℕ) (x : ℕ). repairAt w x (getD l x 0)) q e
-    ∙ ap (repairAt w (checksOf w)) (getD-tabulate 0 512 positionOf (checksOf w) (checks-lt w))
+    ∙ ap (repairAt w (checksOf w)) (getD-tabulate 0 checkValues positionOf (checksOf w) (checks-lt w))

@@ -28,7 +28,7 @@ module _ (s : List ℕ) (on : ℕ → Bool) (at : ℕ → ℕ) (p : ℕ) where
   abbrev both : ℕ → ℕ
   both = pairBit s (on (2 * p)) (groupBits * at (2 * p)) (on (2 * p + 1)) (groupBits * at (2 * p + 1))
 
-  both-bits : (i : ℕ) → i < 2056 → both i ≡ pieces s on at (8 * (pairBytes * p) + i)
+  both-bits : (i : ℕ) → i < 8 * pairBytes → both i ≡ pieces s on at (8 * (pairBytes * p) + i)
   unfolding pairBit
   both-bits i h = by (ltb i groupBits) refl
     where

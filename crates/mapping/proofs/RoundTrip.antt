@@ -125,7 +125,8 @@ module _ (c f n : ℕ) (g w b : List ℕ) (bytes : Bytes g) where
   unfolding mapUnmapAnswer mapUnmapLeaves
   round-trip (refused-first m h) =
       let not-done : mapping .number ≡ allDone → ⊥ = λ z. h (ap (λ (x : Answer). x .number) (m .told) ∙ z) in
-      stops-there (backAnswer c f n g b) (mapped, written (backAnswer c f n g b) g b) (m .told) h (ap (λ (x : List ℕ). (x, b)) (m .kept ∙ written-refused mapping mapped w not-done))
+      stops-there (backAnswer c f n g b) (mapped, written (backAnswer c f n g b) g b) (m .told) h
+      (ap (λ (x : List ℕ). (x, b)) (m .kept ∙ written-refused mapping mapped w not-done))
   round-trip (went-on {m} {r} {out} {back} p z u) =
       let t = map-taken c f n g (length w) (p .told) z in
       let made : out ≡ mapped = p .kept ∙ written-done mapping mapped w (ap (λ (x : Answer). x .number) (sym (p .told)) ∙ z) in

@@ -16,7 +16,7 @@ use Rattle.bits.proofs.Numbers.{digit-lt}
 use Rattle.bits.proofs.Common.{agree, xor-none}
 use Rattle.bits.proofs.Tables.{both, both-left, both-right, each}
 use Rattle.bits.proofs.Xor.{digit-xor}
-use Rattle.sizes.specs.Sizes.{elementBits, wordBits, checkBits}
+use Rattle.sizes.specs.Sizes.{elementBits, wordBits, checkBits, checkValues}
 use Rattle.matrix.specs.Columns.{columns, columnOf, placeIn, positionOf}
 use Rattle.matrix.specs.Sums.{sumTo, taken, tailSum, tailSums, tailOf}
 use Rattle.matrix.proofs.Sums.{taken-xor}
@@ -34,9 +34,9 @@ pub column-not-zero : (i : ℕ) → i < wordBits → columnOf i ≡ 0 → ⊥
 column-not-zero i h e = omega (arith, column-odd i h)
 
 -- it has nine digits
-pub column-lt : (i : ℕ) → i < wordBits → columnOf i < 512
+pub column-lt : (i : ℕ) → i < wordBits → columnOf i < checkValues
 unfolding columnOf columns
-column-lt i h = let e : columnOf i / 512 ≡ 0 = agree (λ i. columnOf i / 512) (λ i. 0) wordBits tt i h in omega arith
+column-lt i h = let e : columnOf i / checkValues ≡ 0 = agree (λ i. columnOf i / checkValues) (λ i. 0) wordBits tt i h in omega arith
 
 -- its place among the columns is i, so no other has its number
 pub position-column : (i : ℕ) → i < wordBits → positionOf (columnOf i) ≡ i
@@ -62,7 +62,7 @@ unfolding positionOf columnOf
 column-position c h = place-found columns c (rw columns-long h)
 
 -- an even number is no column
-pub no-column-even : (c : ℕ) → c < 512 → c % 2 ≡ 0 → positionOf c ≡ wordBits
+pub no-column-even : (c : ℕ) → c < checkValues → c % 2 ≡ 0 → positionOf c ≡ wordBits
 unfolding positionOf placeIn columns
 no-column-even c h e =
     let p : c ≡ 2 * (c / 2) = omega arith in
@@ -72,19 +72,19 @@ no-column-even c h e =
 
 -- the check bits that the search finds for c are nine, and add c
 found : ℕ → ℕ → Bool
-found c p = both (ltb p 512) (eqb (tailSum p) c)
+found c p = both (ltb p checkValues) (eqb (tailSum p) c)
 
-tails-found : (c : ℕ) → c < 512 → T (found c (tailOf c))
+tails-found : (c : ℕ) → c < checkValues → T (found c (tailOf c))
 unfolding found tailOf tailSums tailSum sumTo taken tabulate digit placeIn columnOf columns
-tails-found = each (λ c. found c (tailOf c)) 512 tt
+tails-found = each (λ c. found c (tailOf c)) checkValues tt
 
-pub tail-lt : (c : ℕ) → c < 512 → tailOf c < 512
+pub tail-lt : (c : ℕ) → c < checkValues → tailOf c < checkValues
 unfolding found
-tail-lt c h = ltb→lt (tailOf c) 512 (both-left (ltb (tailOf c) 512) (eqb (tailSum (tailOf c)) c) (tails-found c h))
+tail-lt c h = ltb→lt (tailOf c) checkValues (both-left (ltb (tailOf c) checkValues) (eqb (tailSum (tailOf c)) c) (tails-found c h))
 
-pub tail-sum : (c : ℕ) → c < 512 → tailSum (tailOf c) ≡ c
+pub tail-sum : (c : ℕ) → c < checkValues → tailSum (tailOf c) ≡ c
 unfolding found
-tail-sum c h = eqb→eq (tailSum (tailOf c)) c (both-right (ltb (tailOf c) 512) (eqb (tailSum (tailOf c)) c) (tails-found c h))
+tail-sum c h = eqb→eq (tailSum (tailOf c)) c (both-right (ltb (tailOf c) checkValues) (eqb (tailSum (tailOf c)) c) (tails-found c h))
 
 -- check bits add by sums of columns
 pub tail-xor : (p q : ℕ) → tailSum (bitXor p q) ≡ bitXor (tailSum p) (tailSum q)
@@ -94,18 +94,18 @@ tail-xor p q =
     (λ j h. digit-xor checkBits p q j)
 
 -- they are independent: only no column at all adds zero
-pub only-none : (p : ℕ) → p < 512 → tailSum p ≡ 0 → p ≡ 0
+pub only-none : (p : ℕ) → p < checkValues → tailSum p ≡ 0 → p ≡ 0
 unfolding tailSum sumTo taken digit columnOf columns
 only-none p h e =
-    let t : p * (1 - tailSum p) ≡ 0 = agree (λ p. p * (1 - tailSum p)) (λ p. 0) 512 tt p h in
+    let t : p * (1 - tailSum p) ≡ 0 = agree (λ p. p * (1 - tailSum p)) (λ p. 0) checkValues tt p h in
     sym (mul-one p) ∙ ap (λ (x : ℕ). p * (1 - x)) (sym e) ∙ t
 
 -- so no two choices add the same
-pub independent : (p q : ℕ) → p < 512 → q < 512 → tailSum p ≡ tailSum q → p ≡ q
+pub independent : (p q : ℕ) → p < checkValues → q < checkValues → tailSum p ≡ tailSum q → p ≡ q
 independent p q h k e =
     let z : bitXor p q ≡ 0 = only-none (bitXor p q) (xor-lt checkBits p q h k) (tail-xor p q ∙ rw e (xor-self (tailSum q))) in
     xor-none p q z
 
 -- the search finds those that were added
-pub tail-back : (p : ℕ) → p < 512 → tailSum p < 512 → tailOf (tailSum p) ≡ p
+pub tail-back : (p : ℕ) → p < checkValues → tailSum p < checkValues → tailOf (tailSum p) ≡ p
 tail-back p h l = independent (tailOf (tailSum p)) p (tail-lt (tailSum p) l) h (tail-sum (tailSum p) l)

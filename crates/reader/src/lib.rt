@@ -439,8 +439,8 @@ fn write_frames(
     info: &mut [u8],
     parity: &mut [u8],
 )
-    requires { ⌜ Tables (now t) (now positions) × (now scr ≡ sequence) × (n ≤ mostFrames) × (length (now buffer) ≡ superBytes) × (length (now info) ≡ infoLength n)
-        × (length (now parity) ≡ parityLength n) ⌝ }
+    requires { ⌜ Tables (now t) (now positions) × (now scr ≡ sequence) × (n ≤ mostFrames) × (length (now buffer) ≡ superBytes)
+        × (length (now info) ≡ infoLength n) × (length (now parity) ≡ parityLength n) ⌝ }
     ensures { λ _. ⌜ (now (info .exit) ≡ infoOf n (fecIn (repaired (now (capture .entry)))))
         × (now (parity .exit) ≡ parityOf n (fecIn (repaired (now (capture .entry))))) ⌝ }
 {

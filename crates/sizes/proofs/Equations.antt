@@ -1,11 +1,11 @@
 -- How the sizes hang together: each line is a sum or a product of document 01, computed. Assumes nothing.
-use Prim.Native.Nat.{ℕ, _+_, _*_}
+use Prim.Native.Nat.{ℕ, _+_, _*_, _^_}
 use mathlib.Core.Path.{_≡_, refl}
 use native.Mathlib.Omega.{arith}
 use Rattle.sizes.specs.Sizes.{groupBits, pairBytes, blockBits, clientBlocks, infoBits, crcBits, mbasBits, parityBits}
 use Rattle.sizes.specs.Sizes.{mbasFrom, parityFrom, fecBits, infoBytes, parityBytes, fecBlocks, padFrom, padBits, superBits, superBytes}
-use Rattle.sizes.specs.Sizes.{elementBits, superElements, fecElements, infoElements, rows, rowWait, longestWait, superBlocks}
-use Rattle.sizes.specs.Sizes.{superInfoBytes, superParityBytes, wordBits, checkBits, wordBytes, superCaptureBytes, fillerBytes}
+use Rattle.sizes.specs.Sizes.{elementBits, superElements, fecElements, infoElements, tailElements, rows, rowWait, longestWait, superBlocks}
+use Rattle.sizes.specs.Sizes.{superInfoBytes, superParityBytes, wordBits, checkBits, checkValues, wordBytes, superCaptureBytes, fillerBytes}
 use Rattle.sizes.specs.Sizes.{captureLength, words, blockBytes, listLength}
 
 pub record Sizes : Type 0 where
@@ -24,6 +24,7 @@ pub record Sizes : Type 0 where
   -- an FEC block is a whole number of elements, and so is its information: no element belongs to two blocks or to information and CRC
   pub fec-elements : fecBits ≡ elementBits * fecElements
   pub info-elements : infoBits ≡ elementBits * infoElements
+  pub tail-elements : fecElements ≡ infoElements + tailElements
   pub super-elements : superBits ≡ elementBits * superElements
   -- "686 × 16": a border of super frames has whole rows before it
   pub super-rows : superElements ≡ 686 * rows
@@ -32,6 +33,7 @@ pub record Sizes : Type 0 where
   pub super-info : superInfoBytes ≡ fecBlocks * infoBytes
   pub super-parity : superParityBytes ≡ fecBlocks * parityBytes
   pub word : wordBits ≡ elementBits + checkBits
+  pub checks : checkValues ≡ 2 ^ checkBits
   pub word-bytes : wordBits ≡ 8 * wordBytes
   pub super-capture : superCaptureBytes ≡ wordBytes * superElements
   pub filler : fillerBytes ≡ wordBytes * longestWait
@@ -55,6 +57,7 @@ sizes = record {
   super-bytes = refl;
   fec-elements = refl;
   info-elements = refl;
+  tail-elements = refl;
   super-elements = refl;
   super-rows = refl;
   longest = refl;
@@ -62,6 +65,7 @@ sizes = record {
   super-info = refl;
   super-parity = refl;
   word = refl;
+  checks = refl;
   word-bytes = refl;
   super-capture = refl;
   filler = refl;

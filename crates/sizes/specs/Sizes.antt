@@ -67,7 +67,7 @@ superBits = 1306144
 abbrev pub superBytes : ℕ
 superBytes = 163268
 
--- elements: the bits of one; how many a super frame has, an FEC block, its information
+-- elements: the bits of one; how many a super frame has, an FEC block, its information, and what stands behind that
 abbrev pub elementBits : ℕ
 elementBits = 119
 
@@ -79,6 +79,9 @@ fecElements = 2194
 
 abbrev pub infoElements : ℕ
 infoElements = 2056
+
+abbrev pub tailElements : ℕ
+tailElements = 138
 
 -- the rows of the interleaver, the words by which a row waits longer than the next, and those that the first row waits: as many more than
 -- elements a capture has
@@ -101,13 +104,16 @@ superInfoBytes = 152915
 abbrev pub superParityBytes : ℕ
 superParityBytes = 10240
 
--- ---- "Code words": the bits of one, of which so many are check bits; its bytes; how many words interleave
+-- ---- "Code words": the bits of one, of which so many are check bits, and the numbers that these can be; its bytes; how many words interleave
 
 abbrev pub wordBits : ℕ
 wordBits = 128
 
 abbrev pub checkBits : ℕ
 checkBits = 9
+
+abbrev pub checkValues : ℕ
+checkValues = 512
 
 abbrev pub wordBytes : ℕ
 wordBytes = 16

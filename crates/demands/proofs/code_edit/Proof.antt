@@ -15,8 +15,8 @@ returns : tie.Need-returns
 returns c =
     let k = c .before .before .before .before in
     let a = k .before .before .before .before .before .before .before .before .args in
-    edit-stops (a .n) (a .m0) (now (a .info)) (now (a .parity)) (now (a .capture)) (k .code .ensures) (a .block) (now (a .bits)) (now (a .new-parity)) (now (a .list))
-    (c .if1 .taken)
+    edit-stops (a .n) (a .m0) (now (a .info)) (now (a .parity)) (now (a .capture)) (k .code .ensures) (a .block) (now (a .bits))
+    (now (a .new-parity)) (now (a .list)) (c .if1 .taken)
 
 edit-requires : tie.Need-edit-requires
 edit-requires c κs = search needs
@@ -33,8 +33,8 @@ returns-2 c =
     let went-on = d .before .before .before in
     let k = went-on .before .before .before .before in
     let a = k .before .before .before .before .before .before .before .before .args in
-    edit-follows (a .n) (a .m0) (now (a .info)) (now (a .parity)) (now (a .capture)) (k .code .ensures) (a .block) (now (a .bits)) (now (a .new-parity)) (now (a .list))
-    (went-on .if1 .left) (d .edit .ensures)
+    edit-follows (a .n) (a .m0) (now (a .info)) (now (a .parity)) (now (a .capture)) (k .code .ensures) (a .block) (now (a .bits))
+    (now (a .new-parity)) (now (a .list)) (went-on .if1 .left) (d .edit .ensures)
 
 pub code-edit-spec : {M : Type 1} → statement M
 code-edit-spec =

@@ -59,8 +59,8 @@ returns-2 c =
     let l = c .before .before .before in
     let s = l .before in
     let g = s .before .before in
-    rw (in-turn, ← (g .before .before .one-of .ensures), g .before .if1 .left, c .refuse-length4 .ensures, c .before .refuse-length3 .ensures, c .before .before .refuse-length2 .ensures)
-    (rw (l .refuse-length .ensures, s .refuse-if .ensures, s .before .buffer-place .ensures, g .granted .ensures))
+    rw (in-turn, ← (g .before .before .one-of .ensures), g .before .if1 .left, c .refuse-length4 .ensures, c .before .refuse-length3 .ensures)
+    (rw (c .before .before .refuse-length2 .ensures, l .refuse-length .ensures, s .refuse-if .ensures, s .before .buffer-place .ensures, g .granted .ensures))
 
 pub judge-spec : {M : Type 1} → statement M
 judge-spec =

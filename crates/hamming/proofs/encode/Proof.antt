@@ -3,6 +3,7 @@ use Prim.Native.Nat.{ℕ, _%_, _<_}
 use mathlib.Core.Path.{ap, _∙_}
 use native.Mathlib.Nat.{mod-eq-of-lt}
 use borrow.Author.Needs.{needs}
+use Rattle.sizes.specs.Sizes.{checkValues}
 use Rattle.bits.proofs.Packing.{bitOf-lt}
 use Rattle.bits.specs.Bits.{bitAt}
 use Rattle.matrix.specs.Sums.{tailOf}
@@ -29,9 +30,9 @@ returns : tie.Need-returns
 returns c =
     let k = c .before .before in
     let e = k .before .before .args .e in
-    let small : k .checks .result < 512 = rw (k .checks .ensures) (checks-lt (k .before .join .result)) in
+    let small : k .checks .result < checkValues = rw (k .checks .ensures) (checks-lt (k .before .join .result)) in
     c .join2 .ensures
-    ∙ ap (λ (p : ℕ). joinedWord (bitAt e) (p % 512)) (c .before .tail .ensures)
+    ∙ ap (λ (p : ℕ). joinedWord (bitAt e) (p % checkValues)) (c .before .tail .ensures)
     ∙ ap (joinedWord (bitAt e)) (mod-eq-of-lt (tail-lt (k .checks .result) small) ∙ ap tailOf (k .checks .ensures ∙ ap checksOf (k .before .join .ensures)))
     ∙ word-closed (bitAt e) (bitOf-lt 8 e)
 

@@ -5,6 +5,7 @@ use mir.Syntax.{w8}
 use mir.Val.{Fits}
 use borrow.Author.Needs.{needs}
 use lib.ListN.{getD}
+use Rattle.sizes.specs.Sizes.{checkValues}
 use Rattle.bits.specs.Bits.{Bytes}
 use Rattle.hamming.proofs.ByBytes.{join-set}
 use Rattle.hamming.proofs.join.Statement.{statement}
@@ -35,7 +36,7 @@ array-write-w-2 : tie.Need-array-write-w-2
 array-write-w-2 c = search needs
 
 returns : tie.Need-returns
-returns c = join-set (c .args .e) (c .args .p % 512) (search needs) (bytes c) (omega arith)
+returns c = join-set (c .args .e) (c .args .p % checkValues) (search needs) (bytes c) (omega arith)
 
 pub join-spec : {M : Type 1} → statement M
 join-spec =

@@ -1,6 +1,7 @@
 -- `hamming::position` meets its contract: an entry of the table (`entry-is`). Assumes nothing.
 use mathlib.Core.Path.{refl}
 use borrow.Author.Needs.{needs}
+use Rattle.sizes.specs.Sizes.{checkValues}
 use Rattle.matrix.specs.Columns.{positionOf}
 use Rattle.hamming.proofs.ByBytes.{entry-is}
 use Rattle.hamming.proofs.position.Statement.{statement}
@@ -14,7 +15,7 @@ array-read-result c = search needs
 
 returns : tie.Need-returns
 returns c =
-    let a = c .before in entry-is positionOf 512 (c .position-table .result) (a .args .c) (a .args .c) (c .position-table .ensures) refl (a .pre)
+    let a = c .before in entry-is positionOf checkValues (c .position-table .result) (a .args .c) (a .args .c) (c .position-table .ensures) refl (a .pre)
 
 pub position-spec : {M : Type 1} → statement M
 position-spec =

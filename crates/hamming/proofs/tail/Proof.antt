@@ -1,6 +1,7 @@
 -- `hamming::tail` meets its contract: an entry of the table (`entry-is`). Assumes nothing.
 use mathlib.Core.Path.{refl}
 use borrow.Author.Needs.{needs}
+use Rattle.sizes.specs.Sizes.{checkValues}
 use Rattle.matrix.specs.Sums.{tailOf}
 use Rattle.hamming.proofs.ByBytes.{entry-is}
 use Rattle.hamming.proofs.tail.Statement.{statement}
@@ -17,7 +18,7 @@ array-read-result c = search needs
 
 returns : tie.Need-returns
 returns c =
-    let a = c .before in entry-is tailOf 512 (c .tail-table .result) (a .args .c) (a .args .c) (c .tail-table .ensures) refl (a .pre)
+    let a = c .before in entry-is tailOf checkValues (c .tail-table .result) (a .args .c) (a .args .c) (c .tail-table .ensures) refl (a .pre)
 
 pub tail-spec : {M : Type 1} → statement M
 tail-spec =

@@ -4,6 +4,7 @@ use mathlib.Core.Path.{ap, _∙_}
 use denote.Ref.{now}
 use borrow.Author.Needs.{needs}
 use lib.ListN.{getD}
+use Rattle.sizes.specs.Sizes.{checkValues}
 use Rattle.bits.specs.Bits.{bitAt}
 use Rattle.hamming.specs.Code.{joinedWord}
 use Rattle.lent.specs.Steps.{sumBy, wordBy}
@@ -28,7 +29,7 @@ returns c =
     let b = c .before .before in
     let a = b .before .before .before .args in
     c .join2 .ensures
-    ∙ ap (λ (x : ℕ). joinedWord (bitAt (a .e)) (x % 512))
+    ∙ ap (λ (x : ℕ). joinedWord (bitAt (a .e)) (x % checkValues))
     (c .before .entry-at .ensures ∙ ap (λ (i : ℕ). getD (now (a .tails)) i 0) (b .checks-by .ensures ∙ ap (sumBy (now (a .t))) (b .before .join .ensures)))
 
 pub encode-by-spec : {M : Type 1} → statement M

@@ -5,7 +5,7 @@ use native.Mathlib.Omega.{arith}
 use mir.Syntax.{w8}
 use mir.Val.{Fits}
 use lib.ListN.{getD}
-use Rattle.sizes.specs.Sizes.{checkBits}
+use Rattle.sizes.specs.Sizes.{checkBits, checkValues}
 use Rattle.bits.specs.Bits.{num, bitAt, Bytes}
 use Rattle.hamming.specs.Code.{joinedWord}
 use Rattle.reading.proofs.Pieces.{nine-of}
@@ -47,7 +47,7 @@ returns c =
     let y = c .before .wide2 .ensures in
     let p = c .before .before .wide .result * 2 + c .before .wide2 .result / 128 in
     let e : p ≡ num checkBits (bitAt (s .args .t2)) 0 = rw (x .same, y .same) (nine-of (s .args .t2) (bytes-b s)) in
-    let small : p % 512 ≡ p = omega (arith, x .small, y .small) in
+    let small : p % checkValues ≡ p = omega (arith, x .small, y .small) in
     c .join .ensures ∙ ap (joinedWord (bitAt (s .args .a))) (small ∙ e)
 
 pub follow-spec : {M : Type 1} → statement M

@@ -52,7 +52,8 @@ unfolding readEarlyRows inTurn rowThen faultsThen
 returns-2 c =
     let at-before = c .before .before in
     let g = at-before .before in
-    rw (in-turn, ← (g .before .before .numbers-allowed .ensures), g .before .if1 .left, c .refuse-length3 .ensures, c .before .refuse-length2 .ensures, at-before .refuse-length .ensures, g .granted .ensures)
+    rw (in-turn, ← (g .before .before .numbers-allowed .ensures), g .before .if1 .left)
+    (rw (c .refuse-length3 .ensures, c .before .refuse-length2 .ensures, at-before .refuse-length .ensures, g .granted .ensures))
 
 pub judge-spec : {M : Type 1} → statement M
 judge-spec =

@@ -38,7 +38,8 @@ returns c =
     let e = d .before .before in
     let f = e .before .before in
     let g = f .before .before in
-    rw (c .refuse-if5 .ensures, d .refuse-if4 .ensures, e .refuse-if3 .ensures, f .refuse-if2 .ensures, g .refuse-if .ensures, g .before .before .granted .ensures)
+    rw (c .refuse-if5 .ensures, d .refuse-if4 .ensures, e .refuse-if3 .ensures, f .refuse-if2 .ensures, g .refuse-if .ensures)
+    (rw (g .before .before .granted .ensures))
 
 pub verdict-spec : {M : Type 1} → statement M
 verdict-spec =
