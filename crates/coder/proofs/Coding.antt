@@ -15,10 +15,10 @@ use Rattle.hamming.proofs.Words.{coded-ext, coded-zero}
 use Rattle.lent.proofs.Tabled.{by-word}
 use Rattle.scrambler.specs.Scrambler.{o}
 use Rattle.scrambler.proofs.Rule.{o-lt}
-use Rattle.line_order.specs.Order.{byteBy, groupSize, lineOrder}
+use Rattle.line_order.specs.Order.{byteBy, lineOrder}
 use Rattle.line_order.proofs.Groups.{group-laid}
 use Rattle.line_order.proofs.OrderLaws.{length-laid}
-use Rattle.sizes.specs.Sizes.{elementBits, superElements, superBytes, groupWords, captureLength, wordBytes}
+use Rattle.sizes.specs.Sizes.{elementBits, superElements, superBytes, groupWords, captureLength, wordBytes, groupSize}
 use Rattle.line.specs.Fec.{fecBit}
 use Rattle.line.specs.Frames.{superOf, elementOf}
 use Rattle.line.specs.Slots.{elementIn, holds, slotBit}

@@ -27,8 +27,7 @@ newInfo N b bits info =
 -- the parity of FEC block b / 952 stands at bytes 2,048 (b / 952) .. of the parity
 unfoldable pub newParity : ℕ → ℕ → List ℕ → List ℕ → List ℕ
 newParity N b parity par =
-    tabulate (parityLength N)
-    (λ k. cond (eqb (k / parityBytes) (b / clientBlocks)) (getD parity (k % parityBytes) 0) (getD par k 0))
+    tabulate (parityLength N) (λ k. cond (eqb (k / parityBytes) (b / clientBlocks)) (getD parity (k % parityBytes) 0) (getD par k 0))
 
 -- what is asked of an edit: any block of the capture, buffers of the stated lengths, spare bits zero. Every edit that document 01 allows is one:
 -- `edit-input-all` of proofs/Allowed.antt

@@ -6,8 +6,8 @@ use lib.ListN.{length, getD}
 use Rattle.bits.specs.Bits.{tabulate, from}
 use Rattle.bits.specs.Loops.{upto}
 use Rattle.bits.proofs.Lists.{getD-tabulate, tabulate-ext, is-table}
-use Rattle.sizes.specs.Sizes.{wordBytes, groupWords}
-use Rattle.line_order.specs.Order.{byteBy, laidBy, wordBy, groupSize, wordAt, symbolAt, lineOrder}
+use Rattle.sizes.specs.Sizes.{wordBytes, groupWords, groupSize}
+use Rattle.line_order.specs.Order.{byteBy, laidBy, wordBy, wordAt, symbolAt, lineOrder}
 use Rattle.line_order.specs.Steps.{replaceBy, wordOf, laidGroup, takenGroup, OneToOne}
 use Rattle.line_order.proofs.OrderLaws.{word-laidBy, laidBy-ext, laidBy-words, each-laidBy, line-order, word-group, symbol-group}
 

@@ -15,11 +15,11 @@ use Rattle.bits.specs.Bits.{Bytes}
 use Rattle.bits.specs.Loops.{upto}
 use Rattle.bits.proofs.Common.{by-bound}
 use Rattle.bits.proofs.Lists.{length-tabulate, getD-tabulate, getD-past, tabulate-ext, is-table}
-use Rattle.sizes.specs.Sizes.{wordBytes, groupWords, captureLength, words}
+use Rattle.sizes.specs.Sizes.{wordBytes, groupWords, captureLength, words, groupSize}
 use Rattle.sizes.proofs.Equations.{capture-words}
 use Rattle.line_order.specs.Order.{Order, byteBy, laidBy, symbolBy, wordBy}
 use Rattle.line_order.specs.Steps.{putSymbolBy, putBy, replaceBy, changed, doneTo, putWord, OneToOne}
-use Rattle.line_order.specs.Order.{groupSize, symbolPlace, wordAt, symbolAt, lineOrder, laid, wordIn}
+use Rattle.line_order.specs.Order.{symbolPlace, wordAt, symbolAt, lineOrder, laid, wordIn}
 
 -- ---- words changed, one or those below k
 

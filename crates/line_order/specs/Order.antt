@@ -4,7 +4,7 @@ use Prim.Native.Nat.{ℕ, _+_, _*_, _/_, _%_}
 use mathlib.Core.List.{List}
 use lib.ListN.{getD}
 use Rattle.bits.specs.Bits.{tabulate}
-use Rattle.sizes.specs.Sizes.{wordBytes, groupWords, captureLength}
+use Rattle.sizes.specs.Sizes.{wordBytes, groupWords, captureLength, groupSize}
 
 -- ---- any order
 
@@ -30,10 +30,6 @@ wordBy o cap w = tabulate wordBytes (symbolBy o cap w)
 
 -- ---- the line's order. "Eight words interleave: symbol k of word w stands at capture byte 128·floor(w/8) + 8·k + (w mod 8)" (document 01;
 -- 001 section 11.1)
-
--- the bytes of eight words
-abbrev pub groupSize : ℕ
-groupSize = wordBytes * groupWords
 
 unfoldable pub symbolPlace : ℕ → ℕ → ℕ
 symbolPlace w k = groupSize * (w / groupWords) + groupWords * k + w % groupWords

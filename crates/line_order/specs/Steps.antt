@@ -7,8 +7,8 @@ use lib.Dec.{ltb, eqb}
 use lib.ListN.{getD, set}
 use Rattle.bits.specs.Bits.{tabulate}
 use Rattle.bits.specs.Loops.{upto}
-use Rattle.sizes.specs.Sizes.{wordBytes, groupWords}
-use Rattle.line_order.specs.Order.{Order, laidBy, wordBy, groupSize, lineOrder}
+use Rattle.sizes.specs.Sizes.{wordBytes, groupWords, groupSize}
+use Rattle.line_order.specs.Order.{Order, laidBy, wordBy, lineOrder}
 
 -- on n words of sixteen bytes each symbol has a byte of its own, and each byte is one symbol's
 pub record OneToOne (o : Order) (n : ℕ) : Type 0 where

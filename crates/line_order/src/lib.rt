@@ -3,9 +3,9 @@
 ghost use mathlib.Core.Path.{_≡_};
 ghost use Prim.Native.Nat.{_/_, _^_, _<_, min};
 ghost use lib.ListN.{length, set};
-ghost use Rattle.sizes.specs.Sizes.{wordBytes, groupWords};
+ghost use Rattle.sizes.specs.Sizes.{wordBytes, groupWords, groupSize};
 ghost use Rattle.lent.specs.Steps.{sumBy};
-ghost use Rattle.line_order.specs.Order.{groupSize, symbolPlace, wordIn};
+ghost use Rattle.line_order.specs.Order.{symbolPlace, wordIn};
 ghost use Rattle.line_order.specs.Steps.{putWord, laidGroup, takenGroup};
 
 // Where symbol k of word j of a group stands in the group: the one place where the order is written out.

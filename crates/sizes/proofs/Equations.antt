@@ -5,8 +5,8 @@ use native.Mathlib.Omega.{arith}
 use Rattle.sizes.specs.Sizes.{groupBits, pairBytes, blockBits, clientBlocks, infoBits, crcBits, mbasBits, parityBits}
 use Rattle.sizes.specs.Sizes.{mbasFrom, parityFrom, fecBits, infoBytes, parityBytes, fecBlocks, padFrom, padBits, superBits, superBytes}
 use Rattle.sizes.specs.Sizes.{elementBits, superElements, fecElements, infoElements, tailElements, rows, rowWait, longestWait, superBlocks}
-use Rattle.sizes.specs.Sizes.{superInfoBytes, superParityBytes, wordBits, checkBits, checkValues, wordBytes, superCaptureBytes, fillerBytes}
-use Rattle.sizes.specs.Sizes.{captureLength, words, blockBytes, listLength}
+use Rattle.sizes.specs.Sizes.{superInfoBytes, superParityBytes, wordBits, checkBits, checkValues, wordBytes, groupWords, groupSize}
+use Rattle.sizes.specs.Sizes.{superCaptureBytes, fillerBytes, captureLength, words, blockBytes, listLength}
 
 pub record Sizes : Type 0 where
   -- "four 257-bit blocks"; two places are whole bytes
@@ -35,6 +35,7 @@ pub record Sizes : Type 0 where
   pub word : wordBits ≡ elementBits + checkBits
   pub checks : checkValues ≡ 2 ^ checkBits
   pub word-bytes : wordBits ≡ 8 * wordBytes
+  pub group-bytes : groupSize ≡ groupWords * wordBytes
   pub super-capture : superCaptureBytes ≡ wordBytes * superElements
   pub filler : fillerBytes ≡ wordBytes * longestWait
   -- "257 bits, seven zero bits"
@@ -67,6 +68,7 @@ sizes = record {
   word = refl;
   checks = refl;
   word-bytes = refl;
+  group-bytes = refl;
   super-capture = refl;
   filler = refl;
   block = refl;

@@ -104,7 +104,8 @@ superInfoBytes = 152915
 abbrev pub superParityBytes : ℕ
 superParityBytes = 10240
 
--- ---- "Code words": the bits of one, of which so many are check bits, and the numbers that these can be; its bytes; how many words interleave
+-- ---- "Code words": the bits of one, of which so many are check bits, and the numbers that these can be; its bytes; how many words interleave, and
+-- their bytes
 
 abbrev pub wordBits : ℕ
 wordBits = 128
@@ -120,6 +121,9 @@ wordBytes = 16
 
 abbrev pub groupWords : ℕ
 groupWords = 8
+
+abbrev pub groupSize : ℕ
+groupSize = 128
 
 -- ---- "Captures": the most super frames of one; what a super frame adds to one, in bytes, and what it has besides
 

@@ -3,9 +3,9 @@ use Prim.Native.Nat.{_+_, _-_, _*_}
 use native.Mathlib.Omega.{arith}
 use denote.Ref.{now}
 use Rattle.bits.proofs.Lists.{Filled, filled-none, filled-block, filled-all}
-use Rattle.sizes.specs.Sizes.{captureLength, words}
+use Rattle.sizes.specs.Sizes.{captureLength, words, groupSize}
 use Rattle.line.specs.Fec.{fecBit}
-use Rattle.line_order.specs.Order.{groupSize, byteBy, laidBy, lineOrder}
+use Rattle.line_order.specs.Order.{byteBy, laidBy, lineOrder}
 use Rattle.line.specs.Words.{wordsOf}
 use Rattle.coder.specs.Code.{captureOf}
 use Rattle.coder.proofs.Coding.{group-left}

@@ -4,8 +4,8 @@ use mathlib.Core.Path.{_≡_, refl, ap}
 use native.Mathlib.Omega.{arith}
 use lib.ListN.{length, length-set, getD, set}
 use Rattle.bits.proofs.LoopLaws.{Folded, folded-none, folded-more, folded-all}
-use Rattle.sizes.specs.Sizes.{groupWords, wordBytes}
-use Rattle.line_order.specs.Order.{groupSize, symbolPlace, lineOrder}
+use Rattle.sizes.specs.Sizes.{groupWords, wordBytes, groupSize}
+use Rattle.line_order.specs.Order.{symbolPlace, lineOrder}
 use Rattle.line_order.proofs.OrderLaws.{place-group}
 use Rattle.line_order.proofs.put_inside.Statement.{statement}
 use Rattle.line_order.specs.Steps.{putSymbolBy, putBy}

@@ -6,8 +6,8 @@ use denote.Ref.{now}
 use lib.ListN.{getD}
 use Rattle.bits.proofs.Lists.{Filled, filled-more}
 use Rattle.bits.proofs.LoopLaws.{loops}
-use Rattle.sizes.specs.Sizes.{groupWords, wordBytes}
-use Rattle.line_order.specs.Order.{symbolBy, wordBy, groupSize, symbolPlace, lineOrder}
+use Rattle.sizes.specs.Sizes.{groupWords, wordBytes, groupSize}
+use Rattle.line_order.specs.Order.{symbolBy, wordBy, symbolPlace, lineOrder}
 use Rattle.line_order.proofs.OrderLaws.{place-group}
 use Rattle.line_order.proofs.word_inside.Statement.{statement}
 use Rattle.line_order.proofs.word_inside.Tie as tie
