@@ -13,7 +13,7 @@ use Rattle.answer.specs.Rows.{Row, buffers, wrong}
 use Rattle.answer.specs.Outcomes.{Outcome, written}
 use Rattle.answer.specs.Steps.{faultsThen, rowThen, inTurn, NoFault, RowPassed, Passed}
 use Rattle.answer.specs.declared.Answer.{Answer}
-use Rattle.answer.proofs.Turns.{in-turn, turn-late, granted-passed, right-length, length-right}
+use Rattle.answer.proofs.Turns.{in-turn, turn-late, all-passed, granted-passed, right-length, length-right}
 use Rattle.answer.proofs.Meets.{written-done, written-refused, stops-there, goes-further}
 use Rattle.sizes.specs.Sizes.{words, infoLength, parityLength, captureLength}
 use Rattle.line.specs.Captures.{superAllowed}
@@ -23,10 +23,10 @@ use Rattle.coder.proofs.Judging.{code-rise}
 use Rattle.coder.proofs.Coding.{capture-long}
 use Rattle.reading.specs.Read.{isSeen, readEarlyRows, readLateRows, readAnswer, readLeaves}
 use Rattle.editing.specs.Edit.{listed, listOf, spareSet, editEarlyRows, editLateRows, editAnswer, editLeaves}
-use Rattle.demand_laws.specs.Demand2.{Input, damaged, howMany}
-use Rattle.demand_laws.specs.Demand3.{newInfo, newParity}
-use Rattle.demand_laws.proofs.Demand2.{cap-long, late-done, given-input}
-use Rattle.demand_laws.proofs.Demand3.{later-done, edited-afresh}
+use Rattle.demand_laws.specs.Demand2.{Input, damaged, howMany, ReadsBack}
+use Rattle.demand_laws.specs.Demand3.{newInfo, newParity, EditInput, EditsAsCoded}
+use Rattle.demand_laws.proofs.Demand2.{cap-long, late-done, given-input, demand-2}
+use Rattle.demand_laws.proofs.Demand3.{later-done, edited-afresh, demand-3}
 use Rattle.demands.specs.Demands.{choiceOf, damagedAnswer, codeReadAnswer, codeReadLeaves, CodesAndReads}
 use Rattle.demands.specs.Demands.{codedEditAnswer, codeEditAnswer, codeEditLeaves, CodesAndEdits}
 use Rattle.demands.specs.Steps.{hurtBytes}
@@ -143,3 +143,41 @@ module _ (N m0 : ℕ) (info par cap : List ℕ) {m : Answer} {out : List ℕ}
           told = o .told ∙ ap (λ (s : List ℕ). editAnswer N b bits parity s list) q ∙ edit-any N m0 b info par bits parity list;
           kept = o .kept ∙ ap (λ (s : List ℕ). editLeaves N b bits parity s list) q ∙ edit-leaves-any N m0 b info par bits parity list;
         })
+
+-- ---- of every input that document 01 allows the client's contracts say demand 2 and demand 3 themselves
+
+module _ (N m0 : ℕ) (info par cap : List ℕ) (allowed : Input N m0 info par) (long : length cap ≡ captureLength N) where
+  abbrev coding : Answer
+  coding = codeAnswer N m0 info par cap
+
+  code-passed : Passed (codeRows N m0 (length info) (length par) (length cap))
+  unfolding codeRows Passed RowPassed NoFault
+  code-passed =
+      let inside : not (superAllowed N && mbasAllowed m0) ≡ false = rw (allowed .frames, allowed .number) in
+      (inside, ((length-right (allowed .info-long), (length-right (allowed .parity-long), (length-right long, tt))), tt))
+
+  code-done : coding .number ≡ allDone
+  unfolding codeAnswer
+  code-done = ap (λ (x : Answer). x .number) (all-passed (codeRows N m0 (length info) (length par) (length cap)) (words N) code-passed)
+
+  pub is-demand-2 : (flips info₀ par₀ : List ℕ) {r : Answer} {c : List ℕ} {left : List ℕ × List ℕ} → length info₀ ≡ infoLength N
+      → length par₀ ≡ parityLength N → CodesAndReads N m0 info par flips cap info₀ par₀ r (c, left)
+      → ReadsBack info par (howMany N (choiceOf flips)) r left
+  unfolding codeReadAnswer codeReadLeaves
+  is-demand-2 flips info₀ par₀ i₀ p₀ o =
+      let d = demand-2 N m0 info par allowed (choiceOf flips) info₀ par₀ i₀ p₀ in
+      record {
+        answer = o .told ∙ written-done coding _ _ code-done ∙ sym (answers-any N m0 info par flips info₀ par₀ allowed) ∙ d .answer;
+        buffers = ap (λ (x : List ℕ × (List ℕ × List ℕ)). x .1) (o .kept ∙ written-done coding _ _ code-done)
+            ∙ sym (leaves-any N m0 info par flips info₀ par₀ allowed) ∙ d .buffers;
+      }
+
+  pub is-demand-3 : (b : ℕ) (bits parity list : List ℕ) {r : Answer} {left : List ℕ × List ℕ} → EditInput N b bits parity list
+      → CodesAndEdits N m0 b info par bits parity cap list r left → EditsAsCoded N m0 b bits parity info par list r left
+  unfolding codeEditAnswer codeEditLeaves
+  is-demand-3 b bits parity list edit o =
+      let d = demand-3 N m0 b bits parity info par list edit .edits in
+      record {
+        answer = o .told ∙ written-done coding _ _ code-done ∙ sym (edit-any N m0 b info par bits parity list) ∙ d .answer;
+        buffers = o .kept ∙ written-done coding _ _ code-done ∙ sym (edit-leaves-any N m0 b info par bits parity list) ∙ d .buffers;
+      }
