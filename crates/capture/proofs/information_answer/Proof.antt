@@ -1,8 +1,11 @@
 -- `capture::information_answer` meets its contract: the tests in turn are the table. Assumes nothing.
 use Prim.Native.Nat.{_≤_}
+use mathlib.Core.Bool.{not}
+use mathlib.Core.Path.{ap}
 use native.Mathlib.Omega.{arith}
+use Rattle.answer.specs.Numbers.{outsideSet}
 use Rattle.answer.specs.Steps.{faultsThen, rowThen, inTurn}
-use Rattle.answer.proofs.Turns.{in-turn}
+use Rattle.answer.proofs.Turns.{in-turn, turn-refused}
 use Rattle.sizes.specs.Sizes.{mostFrames}
 use Rattle.line.proofs.CaptureLaws.{frames-in}
 use Rattle.capture.specs.Part.{partRows, partAnswer}
@@ -23,8 +26,8 @@ refuse-requires : tie.Need-refuse-requires
 refuse-requires c κs = search needs
 
 returns : tie.Need-returns
-unfolding partAnswer partRows inTurn rowThen
-returns c = rw (in-turn, ← (c .before .before .one-of .ensures), c .before .if1 .taken) (c .refuse .ensures)
+unfolding partAnswer partRows
+returns c = turn-refused outsideSet _ _ 0 (ap not (c .before .before .one-of .ensures)) (c .before .if1 .taken) (c .refuse .ensures)
 
 mul-stated : tie.Need-mul-stated
 mul-stated c = omega (arith, few c)
