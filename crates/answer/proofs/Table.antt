@@ -9,9 +9,9 @@ use native.Mathlib.Decide.{decLe, ℕ-discrete}
 use native.Mathlib.Omega.{arith}
 use borrow.Author.Tests.{ltb-true, ltb-false}
 use lib.Dec.{ltb}
-use Rattle.bits.specs.Loops.{first}
-use Rattle.bits.proofs.Common.{clash, and-left, and-right}
-use Rattle.bits.proofs.LoopLaws.{First, first-holds}
+use Rattle.prelude.specs.Loops.{first}
+use Rattle.prelude.proofs.Common.{clash, and-left, and-right}
+use Rattle.prelude.proofs.LoopLaws.{First, first-holds}
 use Rattle.answer.specs.Numbers.{allDone}
 use Rattle.answer.specs.Rows.{Row, done, refused, rowNumber, placesOf, holdsAt, firstOf, answerOf}
 use Rattle.answer.specs.Rows.{HoldsAt, Applies, NotAfter, number, place, Least, rising}

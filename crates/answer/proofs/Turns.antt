@@ -9,9 +9,9 @@ use native.Mathlib.Omega.{arith}
 use borrow.Author.Tests.{ltb-true, eq-eqb, ne-eqb, lt-ltb, le-ltb, eqb-true, not-false}
 use lib.Dec.{ltb, eqb}
 use lib.ListN.{length}
-use Rattle.bits.specs.Loops.{first}
-use Rattle.bits.proofs.Common.{and-left, and-right}
-use Rattle.bits.proofs.LoopLaws.{first-is, first-none}
+use Rattle.prelude.specs.Loops.{first}
+use Rattle.prelude.proofs.Common.{and-left, and-right}
+use Rattle.prelude.proofs.LoopLaws.{first-is, first-none}
 use Rattle.answer.specs.Numbers.{allDone, wrongLength}
 use Rattle.answer.specs.Rows.{Row, whole, buffers, each, done, refused, wrong, bufferPlace, faultAt}
 use Rattle.answer.specs.Rows.{rowNumber, placesOf, holdsAt, firstOf, answerOf, rising}

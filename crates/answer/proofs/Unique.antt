@@ -1,7 +1,7 @@
 -- Each public contract has one answer: two results that meet it are the same. `Post` is the contract's own `ensures`, so a weaker contract would not
 -- pass here. Assumes nothing.
 use mathlib.Core.Path.{_≡_}
-use Rattle.bits.proofs.Common.{only}
+use Rattle.prelude.proofs.Common.{only}
 use Rattle.answer.proofs.granted.Reads as granted
 use Rattle.answer.proofs.refuse.Reads as refuse
 use Rattle.answer.proofs.buffer_place.Reads as buffer-place

@@ -7,7 +7,7 @@ use mathlib.Core.Logic.{_⊎_}
 use mathlib.Core.List.{List, [], _∷_}
 use lib.Dec.{ltb, eqb}
 use lib.ListN.{length}
-use Rattle.bits.specs.Loops.{first}
+use Rattle.prelude.specs.Loops.{first}
 use Rattle.answer.specs.Numbers.{allDone}
 use Rattle.answer.specs.declared.Answer.{Answer}
 

@@ -4,7 +4,7 @@ use mathlib.Core.Bool.{Bool, false, cond}
 use mathlib.Core.Path.{_≡_}
 use mathlib.Core.List.{List, [], _∷_}
 use lib.Dec.{ltb}
-use Rattle.bits.specs.Loops.{first}
+use Rattle.prelude.specs.Loops.{first}
 use Rattle.answer.specs.Rows.{Row, whole, buffers, each, refused, bufferPlace}
 use Rattle.answer.specs.declared.Answer.{Answer}
 

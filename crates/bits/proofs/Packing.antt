@@ -7,8 +7,9 @@ use native.Mathlib.Nat.{zero-mul, zero-div, mul-le-mul-left, mul-zero, mul-one, 
 use native.Mathlib.Omega.{arith}
 use lib.ListN.{length, getD, take, drop, replicate, List·getD-eq-default}
 use lib.Seq.{getD-take, getD-drop}
-use Rattle.bits.specs.Bits.{num, digit, bitOf, packs, from, Bits}
-use Rattle.bits.proofs.Lists.{length-tabulate, getD-tabulate, tabulate-ext, tabulate-getD}
+use Rattle.prelude.specs.Lists.{fromIndex}
+use Rattle.bits.specs.Bits.{num, digit, bitOf, packs, Bits}
+use Rattle.prelude.proofs.Lists.{length-tabulate, getD-tabulate, tabulate-ext, tabulate-getD}
 use Rattle.bits.proofs.Numbers.{num-ext, num-split, num-front, num-back, digit-num, digit-lt, num-is}
 
 -- ---- the bits of a list of w-bit elements
@@ -56,14 +57,14 @@ packs-bitOf w s h =
     tabulate-ext (length s) (λ k. num w (bitOf w s) (w * k)) (λ k. getD s k 0) (λ k l. num-bitOf w s k (h k)) ∙ tabulate-getD 0 s
 
 -- bit j of element k is one of the first w * n
-pub below : (w n k j : ℕ) → k < n → j < w → w * k + j < w * n
-below w n k j l m = omega (arith, mul-le-mul-left w l)
+pub below-width : (w n k j : ℕ) → k < n → j < w → w * k + j < w * n
+below-width w n k j l m = omega (arith, mul-le-mul-left w l)
 
 -- bit functions that agree on the first w * n bits pack alike
 pub packs-ext : (w n : ℕ) (f g : ℕ → ℕ) → ((i : ℕ) → i < w * n → f i ≡ g i) → packs w n f ≡ packs w n g
 packs-ext w n f g h =
     tabulate-ext n (λ k. num w f (w * k)) (λ k. num w g (w * k))
-    (λ k l. num-ext w f g (w * k) (w * k) (λ j m. h (w * k + j) (below w n k j l m)))
+    (λ k l. num-ext w f g (w * k) (w * k) (λ j m. h (w * k + j) (below-width w n k j l m)))
 
 -- w bits from bit r on of two elements, by one division: no bit is taken one by one
 pub two-window : (w a b r : ℕ) → r < w → a < 2 ^ w → b < 2 ^ w → (a * 2 ^ w + b) / 2 ^ (w - r) % 2 ^ w ≡ num w (bitOf w (a ∷ b ∷ [])) r
@@ -97,12 +98,12 @@ num-two w s i a b p ea eb =
 
 -- the same, k elements further on, as a loop takes them that goes on from bit i
 pub num-two-from : (w : ℕ) (s : List ℕ) (i k a b : ℕ) → 0 < w → a ≡ getD s (i / w + k) 0 → b ≡ getD s (i / w + k + 1) 0
-    → num w (bitOf w (a ∷ b ∷ [])) (i % w) ≡ num w (from (bitOf w s) i) (w * k)
+    → num w (bitOf w (a ∷ b ∷ [])) (i % w) ≡ num w (fromIndex (bitOf w s) i) (w * k)
 num-two-from w s i k a b p ea eb =
     let q : (i + w * k) / w ≡ i / w + k = ap (λ (x : ℕ). x / w) (add-comm i (w * k)) ∙ mul-add-div p k i ∙ add-comm k (i / w) in
     let r : (i + w * k) % w ≡ i % w = ap (λ (x : ℕ). x % w) (add-comm i (w * k)) ∙ mul-add-mod-self-left w k i in
     let e = num-two w s (i + w * k) a b p (rw q ea) (rw q eb) in
-    (rw r at e) ∙ num-ext w (bitOf w s) (from (bitOf w s) i) (i + w * k) (w * k) (λ j l. ap (bitOf w s) (add-assoc i (w * k) j))
+    (rw r at e) ∙ num-ext w (bitOf w s) (fromIndex (bitOf w s) i) (i + w * k) (w * k) (λ j l. ap (bitOf w s) (add-assoc i (w * k) j))
 
 -- the bits of a part of a list are bits of the list
 pub bitOf-part : (w : ℕ) (s : List ℕ) (a n i : ℕ) → i < w * n → bitOf w (take n (drop a s)) i ≡ bitOf w s (w * a + i)

@@ -1,7 +1,7 @@
 -- Each public contract has one answer: two results that meet it are the same. `Post` is the contract's own `ensures`, so a weaker contract would not
 -- pass here. Assumes nothing.
 use mathlib.Core.Path.{_≡_}
-use Rattle.bits.proofs.Common.{only}
+use Rattle.prelude.proofs.Common.{only}
 use Rattle.bits.proofs.byte_at.Reads as byte-at
 use Rattle.bits.proofs.bit_at.Reads as bit-at
 use Rattle.bits.proofs.byte_from.Reads as byte-from

@@ -5,7 +5,7 @@ use mathlib.Core.List.{List}
 use native.Mathlib.Nat.{mod-lt, zero-lt-suc, add-zero, zero-mul, one-mul}
 use native.Mathlib.Omega.{arith}
 use lib.Arith.{bin-ind, digits-mod}
-use lib.Bits.{bitXor, differ, xor-step, xor-comm, xor-self, xor-zero-r, xor-shr, xor-mod, xor-block}
+use lib.Bits.{bitXor, differ, xor-step, xor-comm, xor-self, xor-zero-l, xor-zero-r, xor-shr, xor-mod, xor-block}
 use lib.ListN.{getD}
 use Rattle.bits.proofs.Packing.{bitOf-lt, num-bitOf}
 use Rattle.bits.specs.Bits.{num, digit, bitOf, added, Bits}
@@ -126,3 +126,7 @@ pub element-xor : (w : ℕ) (s t : List ℕ) (k : ℕ) → getD s k 0 < 2 ^ w �
     → bitXor (getD s k 0) (getD t k 0) ≡ num w (added (bitOf w s) (bitOf w t)) (w * k)
 element-xor w s t k hs ht =
     ap₂ bitXor (sym (num-bitOf w s k hs)) (sym (num-bitOf w t k ht)) ∙ num-xor w (bitOf w s) (bitOf w t) (w * k) (bitOf-lt w s) (bitOf-lt w t)
+
+-- an xor is zero only of equals
+pub xor-none : (a b : ℕ) → bitXor a b ≡ 0 → a ≡ b
+xor-none a b e = sym (xor-cancel a b) ∙ ap (λ (x : ℕ). bitXor x b) e ∙ xor-zero-l b

@@ -1,14 +1,10 @@
--- Lists made from functions, numbers made from bits, and the bits of packed elements.
+-- Numbers made from bits, and the bits of packed elements.
 -- "Bits are packed first bit in the top bit of the first byte" (document 01). A bit is the number 0 or 1; a buffer is the list of its
 -- elements. Everything is over the width w of an element; bytes are w = 8. Assumes nothing: these are definitions.
 use Prim.Native.Nat.{ℕ, zero, suc, _+_, _-_, _*_, _/_, _%_, _^_, _<_}
-use mathlib.Core.List.{List, [], _∷_}
+use mathlib.Core.List.{List}
 use lib.ListN.{getD}
-
--- f 0, f 1, .., f (n - 1)
-unfoldable pub tabulate : {A : Type 0} → ℕ → (ℕ → A) → List A
-tabulate zero f = []
-tabulate (suc n) f = f zero ∷ tabulate n (λ k. f (suc k))
+use Rattle.prelude.specs.Lists.{tabulate}
 
 -- the number whose w binary digits are f a, f (a + 1), .., f (a + w - 1), the first on top
 unfoldable pub num : ℕ → (ℕ → ℕ) → ℕ → ℕ
@@ -36,10 +32,6 @@ byteOf f k = num 8 f (8 * k)
 
 abbrev pub pack : ℕ → (ℕ → ℕ) → List ℕ
 pack n f = packs 8 n f
-
--- the values of f from index a on
-abbrev pub from : {A : Type 0} → (ℕ → A) → ℕ → ℕ → A
-from f a i = f (a + i)
 
 -- bit by bit, the sum without carries
 abbrev pub added : (ℕ → ℕ) → (ℕ → ℕ) → ℕ → ℕ

@@ -1,4 +1,3 @@
 -- What the contracts of `bits`, and of every crate above it, are stated in.
 pub mod Bits
-pub mod Loops
 pub mod Steps

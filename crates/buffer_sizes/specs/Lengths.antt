@@ -13,7 +13,7 @@ abbrev pub smallBytes : ℕ
 smallBytes = parityLength mostFrames + 1
 
 -- r is the length that is stated, and no more than the greatest of its kind
-pub record Bytes (greatest stated r : ℕ) : Type 0 where
+pub record Stated (greatest stated r : ℕ) : Type 0 where
   pub is : r ≡ stated
   pub fits : r ≤ greatest
 

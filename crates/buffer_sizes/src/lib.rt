@@ -3,7 +3,7 @@ ghost use mathlib.Core.Path.{_≡_};
 ghost use lib.ListN.{length, replicate};
 ghost use Rattle.sizes.specs.Sizes.{places, mostFrames, infoLength, parityLength, captureLength, groupBytes, windowBytes};
 ghost use Rattle.gmp.specs.Steps.{dataIn};
-ghost use Rattle.buffer_sizes.specs.Lengths.{largeBytes, smallBytes, Bytes, upTo};
+ghost use Rattle.buffer_sizes.specs.Lengths.{largeBytes, smallBytes, Stated, upTo};
 
 const MOST: u64 = sizes::MOST_FRAMES as u64;
 
@@ -35,7 +35,7 @@ pub fn small_space() -> Small
 
 // The bytes of information of n super frames; 0 where no capture has so many.
 pub fn information(n: u64) -> usize
-    ensures { λ r. ⌜ Bytes (infoLength mostFrames) (upTo mostFrames infoLength n) r ⌝ }
+    ensures { λ r. ⌜ Stated (infoLength mostFrames) (upTo mostFrames infoLength n) r ⌝ }
 {
     if MOST < n {
         return 0;
@@ -45,7 +45,7 @@ pub fn information(n: u64) -> usize
 
 // The bytes of parity of n super frames.
 pub fn parity(n: u64) -> usize
-    ensures { λ r. ⌜ Bytes (parityLength mostFrames) (upTo mostFrames parityLength n) r ⌝ }
+    ensures { λ r. ⌜ Stated (parityLength mostFrames) (upTo mostFrames parityLength n) r ⌝ }
 {
     if MOST < n {
         return 0;
@@ -55,7 +55,7 @@ pub fn parity(n: u64) -> usize
 
 // The bytes of a capture of n super frames.
 pub fn capture(n: u64) -> usize
-    ensures { λ r. ⌜ Bytes (captureLength mostFrames) (upTo mostFrames captureLength n) r ⌝ }
+    ensures { λ r. ⌜ Stated (captureLength mostFrames) (upTo mostFrames captureLength n) r ⌝ }
 {
     if MOST < n {
         return 0;
@@ -65,7 +65,7 @@ pub fn capture(n: u64) -> usize
 
 // The bytes of a window of n places.
 pub fn window(n: u64) -> usize
-    ensures { λ r. ⌜ Bytes (windowBytes places) (upTo places windowBytes n) r ⌝ }
+    ensures { λ r. ⌜ Stated (windowBytes places) (upTo places windowBytes n) r ⌝ }
 {
     if sizes::PLACES < n {
         return 0;
@@ -75,7 +75,7 @@ pub fn window(n: u64) -> usize
 
 // The bytes of the groups in the window of n places from f on. Where the numbers are outside their sets it is 0, and mapping refuses them.
 pub fn groups(c: u64, f: u64, n: u64) -> usize
-    ensures { λ r. ⌜ Bytes (groupBytes places) (groupBytes (dataIn c f n)) r ⌝ }
+    ensures { λ r. ⌜ Stated (groupBytes places) (groupBytes (dataIn c f n)) r ⌝ }
 {
     let d = gmp::data_in(c, f, n);
     (sizes::PAIR_BYTES * (d as usize) + 1) / 2

@@ -8,8 +8,8 @@ use native.Mathlib.Omega.{arith}
 use borrow.Author.Tests.{ltb-true, not-false}
 use lib.Dec.{ltb}
 use lib.ListN.{length, take, drop}
-use Rattle.bits.proofs.Common.{and-right}
-use Rattle.bits.proofs.Lists.{part-long}
+use Rattle.prelude.proofs.Common.{and-right}
+use Rattle.prelude.proofs.Lists.{part-long}
 use Rattle.answer.specs.Numbers.{allDone}
 use Rattle.answer.specs.Rows.{Row, done, rowNumber, rising}
 use Rattle.answer.specs.Demand1.{Exactly}

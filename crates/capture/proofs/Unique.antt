@@ -5,7 +5,7 @@ use mathlib.Core.Path.{_≡_}
 use Prim.Native.Nat.{ℕ}
 use mathlib.Core.List.{List}
 use denote.Ref.{now}
-use Rattle.bits.proofs.Common.{only}
+use Rattle.prelude.proofs.Common.{only}
 use Rattle.answer.proofs.Meets.{only-outcome}
 use Rattle.capture.proofs.information.Reads as information
 use Rattle.capture.proofs.information_answer.Reads as information-answer

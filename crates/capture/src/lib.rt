@@ -2,9 +2,9 @@
 use answer::Answer;
 ghost use mathlib.Core.Path.{_≡_};
 ghost use Rattle.answer.specs.Outcomes.{Outcome};
-ghost use Rattle.coder.specs.Code.{codeAnswer, codeLeaves};
-ghost use Rattle.reading.specs.Read.{readAnswer, readLeaves};
-ghost use Rattle.editing.specs.Edit.{editAnswer, editLeaves};
+ghost use Rattle.code.specs.Code.{codeAnswer, codeLeaves};
+ghost use Rattle.read_spec.specs.Read.{readAnswer, readLeaves};
+ghost use Rattle.edit_spec.specs.Edit.{editAnswer, editLeaves};
 ghost use Rattle.capture.specs.Part.{partAnswer, partOf};
 
 // The information of FEC block t of n super frames: that part of `info` itself, or the empty part where the request is refused.
@@ -35,7 +35,7 @@ pub fn code(n: u64, m0: u64, info: &[u8], parity: &[u8], capture: &mut [u8]) -> 
     ensures { λ r. ⌜ Outcome (codeAnswer n m0 (now (info .entry)) (now (parity .entry)) (now (capture .entry)))
         (codeLeaves n m0 (now (info .entry)) (now (parity .entry)) (now (capture .entry))) r (now (capture .exit)) ⌝ }
 {
-    coder::code(n, m0, info, parity, capture)
+    code::code(n, m0, info, parity, capture)
 }
 
 // Reads n super frames back. The count is the number of words whose nine checks were not zero.
@@ -43,7 +43,7 @@ pub fn read(n: u64, m0: u64, capture: &[u8], info: &mut [u8], parity: &mut [u8])
     ensures { λ r. ⌜ Outcome (readAnswer n m0 (now (capture .entry)) (now (info .entry)) (now (parity .entry)))
         (readLeaves n m0 (now (capture .entry)) (now (info .entry)) (now (parity .entry))) r (now (info .exit), now (parity .exit)) ⌝ }
 {
-    reader::read(n, m0, capture, info, parity)
+    read::read(n, m0, capture, info, parity)
 }
 
 // Replaces a client block and the parity of its FEC block. The count is the number of words listed.
@@ -58,5 +58,5 @@ pub fn edit(
     ensures { λ r. ⌜ Outcome (editAnswer n block (now (bits .entry)) (now (parity .entry)) (now (capture .entry)) (now (list .entry)))
         (editLeaves n block (now (bits .entry)) (now (parity .entry)) (now (capture .entry)) (now (list .entry))) r (now (capture .exit), now (list .exit)) ⌝ }
 {
-    editor::edit(n, block, bits, parity, capture, list)
+    edit::edit(n, block, bits, parity, capture, list)
 }

@@ -10,13 +10,14 @@ use lib.Bits.{bitXor, xor-zero-r, xor-lt, xor-comm}
 use lib.Dec.{eqb, eqb→eq}
 use lib.ListN.{getD, length}
 use lib.Pow.{pow-pos, pow-mono, shr-lt, shr-shr, shl-shr, field}
-use Rattle.bits.specs.Bits.{tabulate, digit, bitAt, added, Bits, Bytes}
-use Rattle.bits.specs.Loops.{upto}
-use Rattle.bits.proofs.Common.{by-bound, agree}
-use Rattle.bits.proofs.Lists.{getD-tabulate}
+use Rattle.prelude.specs.Lists.{tabulate}
+use Rattle.bits.specs.Bits.{digit, bitAt, added, Bits, Bytes}
+use Rattle.prelude.specs.Loops.{upto}
+use Rattle.prelude.proofs.Common.{by-bound, agree}
+use Rattle.prelude.proofs.Lists.{getD-tabulate}
 use Rattle.bits.proofs.Numbers.{digit-lt}
 use Rattle.bits.proofs.Packing.{bitOf-at, bitOf-lt}
-use Rattle.bits.proofs.Tables.{below, each}
+use Rattle.prelude.proofs.Tables.{belowAll, each}
 use Rattle.bits.proofs.Xor.{xor-assoc, digit-xor}
 use Rattle.crc.specs.Remainder.{shift, step, remFrom, remOf, shiftN}
 use Rattle.crc.specs.Crc.{width, poly, opened, ones, crcOf}
@@ -135,7 +136,7 @@ opening-digit : (n i : ℕ) → n ≤ 32 → i < n → digit 32 (opening n) i �
 unfolding digit opening
 opening-digit n i h l =
     eqb→eq (digit 32 (opening n) i) 1
-    (each (λ i. eqb (digit 32 (opening n) i) 1) n (each (λ n. below (λ i. eqb (digit 32 (opening n) i) 1) n) 33 tt n (omega arith)) i l)
+    (each (λ i. eqb (digit 32 (opening n) i) 1) n (each (λ n. belowAll (λ i. eqb (digit 32 (opening n) i) 1) n) 33 tt n (omega arith)) i l)
 
 -- and nothing behind them
 opening-away : (n : ℕ) → n ≤ 32 → opening n * 2 ^ n % 2 ^ 32 ≡ 0

@@ -11,7 +11,7 @@ use lib.Pow.{pow-pos}
 use Rattle.bits.specs.Bits.{digit, added, Bits}
 use Rattle.bits.proofs.Numbers.{digit-lt}
 use Rattle.bits.proofs.Xor.{xor-assoc, xor-swap, digit-xor, times-xor, double-xor}
-use Rattle.bits.proofs.Common.{bit-times}
+use Rattle.prelude.proofs.Common.{bit-times}
 use Rattle.crc.specs.Remainder.{shift, step, remFrom, remOf, shiftN}
 
 -- ---- digits

@@ -8,7 +8,7 @@ use native.Mathlib.Omega.{arith}
 use lib.Bits.{bitXor, xor-zero-r, xor-shifted}
 use lib.Pow.{pow-mono, pow-lt}
 use Rattle.bits.specs.Bits.{num, digit}
-use Rattle.bits.specs.Loops.{upto}
+use Rattle.prelude.specs.Loops.{upto}
 use Rattle.bits.proofs.Numbers.{digit-lt, num-lt, num-digit}
 use Rattle.crc.specs.Remainder.{shift, shiftN}
 use Rattle.crc.specs.Steps.{productStep, product}

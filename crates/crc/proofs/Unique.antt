@@ -1,7 +1,7 @@
 -- Each public contract has one answer, for any numbers, any table and any bytes: two results that meet it are the same. `Post` is the
 -- contract's own `ensures`, so a weaker contract would not pass here. Assumes nothing.
 use mathlib.Core.Path.{_≡_}
-use Rattle.bits.proofs.Common.{only}
+use Rattle.prelude.proofs.Common.{only}
 use Rattle.crc.proofs.take.Reads as take
 use Rattle.crc.proofs.shifted.Reads as shifted
 use Rattle.crc.proofs.table.Reads as table

@@ -39,7 +39,7 @@ remOf f n = any.remOf width poly f n
 unfoldable pub opened : (ℕ → ℕ) → ℕ → ℕ
 opened f i = cond (ltb i width) (1 - f i) (f i)
 
--- all 32 digits are ones: adding this turns each of them
+-- all 32 digits are ones: adding this flips each of them
 abbrev pub ones : ℕ
 ones = 2 ^ width - 1
 

@@ -6,8 +6,9 @@ use Prim.Native.Nat.{ℕ, _-_, _*_, _/_, _%_, _^_}
 use mathlib.Core.List.{List}
 use lib.Bits.{bitXor}
 use lib.ListN.{getD, length}
-use Rattle.bits.specs.Bits.{tabulate, digit}
-use Rattle.bits.specs.Loops.{upto}
+use Rattle.prelude.specs.Lists.{tabulate}
+use Rattle.bits.specs.Bits.{digit}
+use Rattle.prelude.specs.Loops.{upto}
 use Rattle.crc.specs.Remainder.{shift, remOf}
 use Rattle.crc.specs.Crc.{width, poly, ones}
 

@@ -7,8 +7,8 @@ use native.Mathlib.Omega.{arith}
 use borrow.Author.Tests.{ltb-false, le-ltb, ne-eqb}
 use lib.Dec.{ltb, eqb, eqb·suc-suc}
 use lib.ListN.{getD}
-use Rattle.bits.specs.Loops.{upto, count}
-use Rattle.bits.proofs.Counting.{count-le}
+use Rattle.prelude.specs.Loops.{upto, count}
+use Rattle.prelude.proofs.Counting.{count-le}
 use Rattle.decimal.specs.Digits.{isDigit, digitAt, allDigits, decimal}
 use Rattle.decimal.specs.Steps.{seen, nextValue, nextAt}
 

@@ -4,7 +4,7 @@ use mathlib.Core.Bool.{Bool, _&&_}
 use mathlib.Core.List.{List}
 use lib.Dec.{leb, eqb}
 use lib.ListN.{getD}
-use Rattle.bits.specs.Loops.{upto, count}
+use Rattle.prelude.specs.Loops.{upto, count}
 
 -- a byte is one of 0 .. 9
 abbrev pub isDigit : ℕ → Bool

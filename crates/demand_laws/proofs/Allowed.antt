@@ -12,7 +12,7 @@ use Rattle.bits.proofs.Numbers.{num-zero}
 use Rattle.sizes.specs.Sizes.{blockBits}
 use Rattle.line.specs.Fec.{mbasAllowed}
 use Rattle.line.proofs.CaptureLaws.{all-frames}
-use Rattle.editing.specs.Edit.{spareSet}
+use Rattle.edit_spec.specs.Edit.{clientSpareSet}
 use Rattle.demand_laws.specs.Demand2.{Input}
 use Rattle.demand_laws.specs.Demand3.{EditInput}
 
@@ -32,7 +32,7 @@ input-all N m0 info par some few number info-long info-bytes parity-long parity-
 -- "a client block number 0..4,760·N − 1, 33 bytes (257 bits, seven zero bits), 2,048 parity bytes .. and a list of exactly 145 numbers"
 pub edit-input-all : (N b : ℕ) (bits parity list : List ℕ) → 1 ≤ N → N ≤ 8 → b < 4760 * N → length bits ≡ 33
     → ((j : ℕ) → j < 7 → bitAt bits (257 + j) ≡ 0) → length parity ≡ 2048 → length list ≡ 145 → EditInput N b bits parity list
-unfolding spareSet
+unfolding clientSpareSet
 edit-input-all N b bits parity list some few block bits-long spare parity-long list-long = record {
   frames = all-frames N some few;
   block = block;

@@ -9,9 +9,9 @@ use borrow.Author.Tests.{ltb-true, eq-eqb, ne-eqb}
 use lib.Dec.{ltb, eqb}
 use lib.ListN.{length, replicate}
 use Rattle.bits.specs.Bits.{num, Bits}
-use Rattle.bits.specs.Loops.{count}
+use Rattle.prelude.specs.Loops.{count}
 use Rattle.bits.proofs.Numbers.{num-is, num-zero}
-use Rattle.bits.proofs.Counting.{count-ext}
+use Rattle.prelude.proofs.Counting.{count-ext}
 use Rattle.answer.specs.Rows.{done, answerOf}
 use Rattle.answer.specs.Steps.{NoFault, RowPassed, Passed}
 use Rattle.answer.specs.declared.Answer.{Answer}
@@ -19,11 +19,11 @@ use Rattle.answer.proofs.Turns.{early-passed, all-passed, length-right, none-th
 use Rattle.answer.proofs.Meets.{written-done}
 use Rattle.crc.specs.Crc.{crcOf}
 use Rattle.crc.proofs.Changes.{crc-ext, crc-lt}
-use Rattle.hamming.specs.Code.{checksOf, turn}
-use Rattle.hamming.specs.Repair.{repairOf, numberOf}
+use Rattle.hamming.specs.Code.{checksOf, flip}
+use Rattle.hamming.specs.Repair.{repairOf, foundNumber}
 use Rattle.hamming.specs.declared.Repaired.{Repaired}
 use Rattle.hamming.proofs.Words.{coded-checks}
-use Rattle.hamming.proofs.Turning.{turn-long}
+use Rattle.hamming.proofs.Flipping.{flip-long}
 use Rattle.hamming.proofs.Repairs.{none-kept, one-seen, one-repaired}
 use Rattle.sizes.specs.Sizes.{infoBits, crcBits, mbasBits, mbasFrom, parityFrom, fecBits, fecBlocks, padFrom, padBits, infoLength, parityLength}
 use Rattle.sizes.specs.Sizes.{captureLength, words, wordBytes, wordBits}
@@ -36,54 +36,54 @@ use Rattle.line.specs.Words.{wordsOf, superIn, fecIn}
 use Rattle.line.proofs.FecLaws.{mbas-lt, info-bits, fec-info, fec-crc, fec-mbas, fec-parity, fec-bits, info-back, parity-back}
 use Rattle.line.proofs.FrameLaws.{super-pad}
 use Rattle.line_order.proofs.OrderLaws.{length-laid, word-laid}
-use Rattle.coder.specs.Code.{captureOf}
-use Rattle.coder.proofs.Coding.{word-filler}
-use Rattle.reading.specs.Read.{repaired, allZero, isBeyond, isFilled, mbasDiffers, crcDiffers, padDiffers, isSeen, readEarlyRows, readLateRows}
-use Rattle.reading.specs.Read.{readAnswer, given, readLeaves}
-use Rattle.demand_laws.specs.Demand2.{Input, Choice, chosen, hurt, damaged, howMany, Demand2}
+use Rattle.code.specs.Code.{captureOf}
+use Rattle.code.proofs.Coding.{word-filler}
+use Rattle.read_spec.specs.Read.{repaired, allZero, isBeyond, isFilled, mbasDiffers, crcDiffers, padDiffers, isSeen, readEarlyRows, readLateRows}
+use Rattle.read_spec.specs.Read.{readAnswer, given, readLeaves}
+use Rattle.demand_laws.specs.Demand2.{Input, Flips, isFlipped, flipIf, flipped, howMany, Demand2}
 use Rattle.demand_laws.proofs.ReadLaws.{words-long, held-bits, super-read, fec-read}
 
--- ---- a code word with at most one bit turned
+-- ---- a code word with at most one bit flipped
 
-pub record Hurt (v : List ℕ) (p : ℕ) : Type 0 where
-  pub long : length (hurt v p) ≡ wordBytes
-  pub back : repairOf (hurt v p) .word ≡ v
-  pub found : numberOf (repairOf (hurt v p) .found) ≡ 0
-  pub seen : not (eqb (checksOf (hurt v p)) 0) ≡ ltb p wordBits
+pub record FlippedIf (v : List ℕ) (p : ℕ) : Type 0 where
+  pub long : length (flipIf v p) ≡ wordBytes
+  pub back : repairOf (flipIf v p) .word ≡ v
+  pub found : foundNumber (repairOf (flipIf v p) .found) ≡ 0
+  pub seen : not (eqb (checksOf (flipIf v p)) 0) ≡ ltb p wordBits
 
-hurt-by : (v : List ℕ) (p : ℕ) (b : Bool) → ltb p wordBits ≡ b → length v ≡ wordBytes → checksOf v ≡ 0
-    → (length (cond b (turn v p) v) ≡ wordBytes) × (repairOf (cond b (turn v p) v) .word ≡ v) × (numberOf (repairOf (cond b (turn v p) v) .found) ≡ 0)
-    × (not (eqb (checksOf (cond b (turn v p) v)) 0) ≡ b)
-hurt-by v p true e long clean =
+flip-if-by : (v : List ℕ) (p : ℕ) (b : Bool) → ltb p wordBits ≡ b → length v ≡ wordBytes → checksOf v ≡ 0
+    → (length (cond b (flip v p) v) ≡ wordBytes) × (repairOf (cond b (flip v p) v) .word ≡ v) × (foundNumber (repairOf (cond b (flip v p) v) .found) ≡ 0)
+    × (not (eqb (checksOf (cond b (flip v p) v)) 0) ≡ b)
+flip-if-by v p true e long clean =
     let h : p < wordBits = ltb-true p wordBits e in
     let r = one-repaired v long clean p h in (
-      turn-long v p ∙ long,
+      flip-long v p ∙ long,
       ap (λ (x : Repaired). x .word) r,
-      ap (λ (x : Repaired). numberOf (x .found)) r,
+      ap (λ (x : Repaired). foundNumber (x .found)) r,
       ap not
-          (ne-eqb (checksOf (turn v p)) 0 (one-seen v long clean p h)),
+          (ne-eqb (checksOf (flip v p)) 0 (one-seen v long clean p h)),
     )
-hurt-by v p false e long clean =
+flip-if-by v p false e long clean =
     let r = none-kept v clean in
-    (long, ap (λ (x : Repaired). x .word) r, ap (λ (x : Repaired). numberOf (x .found)) r, ap not (eq-eqb (checksOf v) 0 clean))
+    (long, ap (λ (x : Repaired). x .word) r, ap (λ (x : Repaired). foundNumber (x .found)) r, ap not (eq-eqb (checksOf v) 0 clean))
 
-pub hurt-word : (v : List ℕ) (p : ℕ) → length v ≡ wordBytes → checksOf v ≡ 0 → Hurt v p
-unfolding hurt
-hurt-word v p long clean =
-    let h = hurt-by v p (ltb p wordBits) refl long clean in record { long = h .0; back = h .1; found = h .2; seen = h .3 }
+pub flip-if-word : (v : List ℕ) (p : ℕ) → length v ≡ wordBytes → checksOf v ≡ 0 → FlippedIf v p
+unfolding flipIf
+flip-if-word v p long clean =
+    let h = flip-if-by v p (ltb p wordBits) refl long clean in record { long = h .0; back = h .1; found = h .2; seen = h .3 }
 
 zeros : allZero (replicate wordBytes 0) ≡ true
 unfolding allZero
 zeros = refl
 
--- ---- the damaged capture, read
+-- ---- the capture with its flips, read
 
-module _ (N m0 : ℕ) (info par : List ℕ) (flips : Choice) where
+module _ (N m0 : ℕ) (info par : List ℕ) (flips : Flips) where
   abbrev F : ℕ → ℕ → ℕ
   F = fecBit m0 info par
 
   abbrev cap : List ℕ
-  cap = damaged N flips (captureOf N m0 info par)
+  cap = flipped N flips (captureOf N m0 info par)
 
   bits : (t : ℕ) → Bits (F t)
   bits t = fec-bits m0 info par t
@@ -92,29 +92,29 @@ module _ (N m0 : ℕ) (info par : List ℕ) (flips : Choice) where
   unfolding wordsOf
   clean w = coded-checks (slotBit N (elementOf (superOf F)) w) (held-bits N F w)
 
-  hurt-at : (w : ℕ) → Hurt (wordsOf N F w) (flips w)
-  hurt-at w = hurt-word (wordsOf N F w) (flips w) (words-long N F w) (clean w)
+  flip-if-at : (w : ℕ) → FlippedIf (wordsOf N F w) (flips w)
+  flip-if-at w = flip-if-word (wordsOf N F w) (flips w) (words-long N F w) (clean w)
 
   coded-word : (w : ℕ) → w < words N → wordIn (captureOf N m0 info par) w ≡ wordsOf N F w
   unfolding captureOf
   coded-word w h = word-laid N (wordsOf N F) w h (words-long N F w)
 
-  damaged-word : (w : ℕ) → w < words N → wordIn cap w ≡ hurt (wordsOf N F w) (flips w)
-  unfolding damaged
-  damaged-word w h =
-      let e : hurt (wordIn (captureOf N m0 info par) w) (flips w) ≡ hurt (wordsOf N F w) (flips w) = ap (λ (s : List ℕ). hurt s (flips w)) (coded-word w h) in
-      word-laid N (λ x. hurt (wordIn (captureOf N m0 info par) x) (flips x)) w h (ap length e ∙ hurt-at w .long) ∙ e
+  flipped-word : (w : ℕ) → w < words N → wordIn cap w ≡ flipIf (wordsOf N F w) (flips w)
+  unfolding flipped
+  flipped-word w h =
+      let e : flipIf (wordIn (captureOf N m0 info par) w) (flips w) ≡ flipIf (wordsOf N F w) (flips w) = ap (λ (s : List ℕ). flipIf s (flips w)) (coded-word w h) in
+      word-laid N (λ x. flipIf (wordIn (captureOf N m0 info par) x) (flips x)) w h (ap length e ∙ flip-if-at w .long) ∙ e
 
   -- every word comes back
   pub words-back : (w : ℕ) → w < words N → repaired cap w ≡ wordsOf N F w
   unfolding repaired
-  words-back w h = ap (λ (s : List ℕ). repairOf s .word) (damaged-word w h) ∙ hurt-at w .back
+  words-back w h = ap (λ (s : List ℕ). repairOf s .word) (flipped-word w h) ∙ flip-if-at w .back
 
   -- ---- no row applies
 
   pub no-4 : (w : ℕ) → w < words N → isBeyond cap w ≡ false
   unfolding isBeyond
-  no-4 w h = rw (damaged-word w h, hurt-at w .found)
+  no-4 w h = rw (flipped-word w h, flip-if-at w .found)
 
   filler-zero : (w : ℕ) → w < words N → (b : Bool) → holds N w ≡ b → not b && not (allZero (repaired cap w)) ≡ false
   filler-zero w h true e = refl
@@ -161,13 +161,13 @@ module _ (N m0 : ℕ) (info par : List ℕ) (flips : Choice) where
       ap not (eq-eqb (num padBits (superIn (repaired cap) f) padFrom) 0 e)
 
   -- the count is exact
-  seen-chosen : (w : ℕ) → w < words N → isSeen cap w ≡ chosen flips w
+  seen-flipped : (w : ℕ) → w < words N → isSeen cap w ≡ isFlipped flips w
   unfolding isSeen
-  seen-chosen w h = rw (damaged-word w h) (hurt-at w .seen)
+  seen-flipped w h = rw (flipped-word w h) (flip-if-at w .seen)
 
   counted : count (isSeen cap) (words N) ≡ howMany N flips
   unfolding howMany
-  counted = count-ext (isSeen cap) (chosen flips) (words N) seen-chosen
+  counted = count-ext (isSeen cap) (isFlipped flips) (words N) seen-flipped
 
   late-passed : Passed (readLateRows N m0 cap)
   unfolding readLateRows Passed RowPassed
@@ -187,8 +187,8 @@ module _ (N m0 : ℕ) (info par : List ℕ) (flips : Choice) where
   late-done = all-passed (readLateRows N m0 cap) (count (isSeen cap) (words N)) late-passed ∙ ap done counted
 
   pub cap-long : length cap ≡ captureLength N
-  unfolding damaged
-  cap-long = length-laid N (λ w. hurt (wordIn (captureOf N m0 info par) w) (flips w))
+  unfolding flipped
+  cap-long = length-laid N (λ w. flipIf (wordIn (captureOf N m0 info par) w) (flips w))
 
   module _ (input : Input N m0 info par) where
     info-read : infoOf N (fecIn (repaired cap)) ≡ info
@@ -227,6 +227,6 @@ module _ (N m0 : ℕ) (info par : List ℕ) (flips : Choice) where
 
 -- ---- the theorem
 
-pub demand-2 : (N m0 : ℕ) (info par : List ℕ) → Input N m0 info par → (flips : Choice) → Demand2 N m0 info par flips
+pub demand-2 : (N m0 : ℕ) (info par : List ℕ) → Input N m0 info par → (flips : Flips) → Demand2 N m0 info par flips
 demand-2 N m0 info par input flips info₀ par₀ i₀ p₀ =
     record { answer = answers-done N m0 info par flips input info₀ par₀ i₀ p₀; buffers = leaves-input N m0 info par flips input info₀ par₀ i₀ p₀ }

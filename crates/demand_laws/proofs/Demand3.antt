@@ -6,7 +6,7 @@ use mathlib.Core.List.{List, _++_}
 use borrow.Author.Tests.{lt-ltb, eq-eqb}
 use lib.Dec.{ltb, eqb}
 use lib.ListN.{length, getD, drop}
-use Rattle.bits.specs.Loops.{count}
+use Rattle.prelude.specs.Loops.{count}
 use Rattle.answer.specs.Rows.{done, answerOf}
 use Rattle.answer.specs.Steps.{NoFault, RowPassed, Passed}
 use Rattle.answer.specs.declared.Answer.{Answer}
@@ -16,11 +16,11 @@ use Rattle.hamming.specs.Code.{checksOf}
 use Rattle.sizes.specs.Sizes.{words, blocksOf}
 use Rattle.line.specs.Captures.{superAllowed}
 use Rattle.line_order.specs.Order.{wordIn}
-use Rattle.coder.specs.Code.{captureOf}
-use Rattle.coder.proofs.Coding.{capture-long}
-use Rattle.editing.specs.Edit.{listed, listOf, spareSet, fails, editEarlyRows, editLateRows, editAnswer, edited, editLeaves}
-use Rattle.editing.proofs.Listing.{listed-holding, holding-listed}
-use Rattle.editing.proofs.Promises.{list-is, byte-kept}
+use Rattle.code.specs.Code.{captureOf}
+use Rattle.code.proofs.Coding.{capture-long}
+use Rattle.edit_spec.specs.Edit.{listed, listOf, clientSpareSet, fails, editEarlyRows, editLateRows, editAnswer, edited, editLeaves}
+use Rattle.edit_spec.proofs.Listing.{listed-holding, holding-listed}
+use Rattle.edit_spec.proofs.Promises.{list-is, byte-kept}
 use Rattle.demand_laws.specs.Demand3.{EditInput, newInfo, newParity, Demand3}
 use Rattle.demand_laws.proofs.Demand2.{clean}
 use Rattle.demand_laws.proofs.EditLaws.{coded-words, edit-is-coding}
@@ -57,7 +57,7 @@ module _ (N m0 b : ℕ) (bits parity info par list : List ℕ) where
   later-done = all-passed (editLateRows N b cap) listedCount later-passed
 
   module _ (input : EditInput N b bits parity list) where
-    first-passed : Passed (editEarlyRows N b (length bits) (length parity) (length cap) (length list) (spareSet bits))
+    first-passed : Passed (editEarlyRows N b (length bits) (length parity) (length cap) (length list) (clientSpareSet bits))
     unfolding editEarlyRows Passed RowPassed NoFault
     first-passed =
         let inside : not (superAllowed N && ltb b (blocksOf N)) ≡ false = rw (input .frames, lt-ltb b (blocksOf N) (input .block)) in
@@ -72,7 +72,7 @@ module _ (N m0 b : ℕ) (bits parity info par list : List ℕ) where
     edit-answers : editAnswer N b bits parity cap list ≡ done listedCount
     unfolding editAnswer
     edit-answers =
-        early-passed (editEarlyRows N b (length bits) (length parity) (length cap) (length list) (spareSet bits)) (editLateRows N b cap) listedCount
+        early-passed (editEarlyRows N b (length bits) (length parity) (length cap) (length list) (clientSpareSet bits)) (editLateRows N b cap) listedCount
         first-passed
         ∙ later-done
 

@@ -10,8 +10,8 @@ use lib.Arith.{lt-of-le-ne}
 use lib.Dec.{ltb, leb, eqb}
 use lib.ListN.{getD}
 use Rattle.bits.specs.Bits.{digit, bitOf, bitAt, Bits}
-use Rattle.bits.proofs.Common.{cond-bit, by-bound, clash}
-use Rattle.bits.proofs.Lists.{getD-tabulate}
+use Rattle.prelude.proofs.Common.{cond-bit, by-bound, clash, or-left}
+use Rattle.prelude.proofs.Lists.{getD-tabulate}
 use Rattle.bits.proofs.Packing.{bitOf-lt, bitOf-packs}
 use Rattle.bits.proofs.Xor.{digit-xor}
 use Rattle.crc.proofs.Changes.{rem-ext, crc-ext, crc-change}
@@ -29,12 +29,12 @@ use Rattle.line.proofs.FecLaws.{fields-info, fields-crc, fields-mbas, fields-pa
 use Rattle.line.proofs.FrameLaws.{super-pad}
 use Rattle.line.proofs.SlotLaws.{held, held-bit, filler-bit}
 use Rattle.line_order.proofs.OrderLaws.{laid-ext, word-laid}
-use Rattle.coder.specs.Code.{captureOf}
-use Rattle.editing.specs.Edit.{fecOf, blockFrom, inBlock, replaced, change, crcChange, newCrc, keptMbas, editedBits, editedFec, touched, elementFec}
-use Rattle.editing.specs.Edit.{elementLocal, listed, editedWord, editedCapture}
-use Rattle.editing.proofs.Listing.{holding-listed}
-use Rattle.editing.proofs.Remaking.{element-of, local-place-lt}
-use Rattle.editing.proofs.Changing.{change-bits}
+use Rattle.code.specs.Code.{captureOf}
+use Rattle.edit_spec.specs.Edit.{fecOf, blockFrom, inBlock, replaced, change, crcChange, newCrc, keptMbas, editedBits, editedFec, touched, elementFec}
+use Rattle.edit_spec.specs.Edit.{elementLocal, listed, editedWord, editedCapture}
+use Rattle.edit_spec.proofs.Listing.{holding-listed}
+use Rattle.edit_spec.proofs.Remaking.{element-of, local-place-lt}
+use Rattle.edit_spec.proofs.Changing.{change-bits}
 use Rattle.demand_laws.specs.Demand3.{newInfo, newParity}
 use Rattle.demand_laws.proofs.ReadLaws.{words-long, fec-read}
 
@@ -124,8 +124,8 @@ module _ (N b : ℕ) (parity par : List ℕ) where
 
 -- ---- the FEC block of the edited input is the edited FEC block
 
-twice : (a r : ℕ) → a < 2 → r < 2 → (a + (a + r) % 2) % 2 ≡ r
-twice a r ha hr = omega arith
+edit-twice : (a r : ℕ) → a < 2 → r < 2 → (a + (a + r) % 2) % 2 ≡ r
+edit-twice a r ha hr = omega arith
 
 replaced-bit : (b : ℕ) (bits : List ℕ) (f g : ℕ → ℕ) (i : ℕ) → f i ≡ g i → replaced b bits f i ≡ replaced b bits g i
 unfolding replaced
@@ -159,7 +159,7 @@ module _ (N m0 b : ℕ) (bits parity info par : List ℕ) where
       unfolding change
       here-change i h =
           here-info i h ∙ sym (ap (λ (x : ℕ). (x + (F t i + replaced b bits (F t) i) % 2) % 2) (sym (fec-info m0 info par t i h))
-          ∙ twice (F t i) (replaced b bits (F t) i) (fec-bits m0 info par t i) (replaced-lt b bits (F t) i (fec-bits m0 info par t i)))
+          ∙ edit-twice (F t i) (replaced b bits (F t) i) (fec-bits m0 info par t i) (replaced-lt b bits (F t) i (fec-bits m0 info par t i)))
 
       here-crc : blockCrc info′ t ≡ bitXor (blockCrc info t) (crcChange b bits (F t))
       unfolding blockCrc crcChange
@@ -250,16 +250,12 @@ edited-fec-ext b bits parity F G t same i h = by (eqb t (fecOf b))
 
 -- ---- a place that is not touched keeps its bit
 
-or-left : (x y z : Bool) → x || y || z ≡ false → x ≡ false
-or-left true y z e = e
-or-left false y z e = refl
-
-untouched : (b : ℕ) (bits parity : List ℕ) (f : ℕ → ℕ) (i : ℕ) → i < fecBits → touched b i ≡ false → editedBits b bits parity f i ≡ f i
+block-untouched : (b : ℕ) (bits parity : List ℕ) (f : ℕ → ℕ) (i : ℕ) → i < fecBits → touched b i ≡ false → editedBits b bits parity f i ≡ f i
 unfolding editedBits keptMbas touched replaced
-untouched b bits parity f =
+block-untouched b bits parity f =
     fields-all (λ i. touched b i ≡ false → editedBits b bits parity f i ≡ f i)
     (λ i h e. fields-info (replaced b bits f) (newCrc b bits f) (keptMbas f) (bitAt parity) i h
-    ∙ rw (or-left (inBlock b i) (leb infoBits i && ltb i mbasFrom) (leb parityFrom i) e))
+    ∙ rw (or-left (inBlock b i) (leb infoBits i && ltb i mbasFrom) (or-left (inBlock b i || (leb infoBits i && ltb i mbasFrom)) (leb parityFrom i) e)))
     (λ j h e. absurd (clash (in-crc j h) e))
     (λ j h e. fields-mbas (replaced b bits f) (newCrc b bits f) (keptMbas f) (bitAt parity) j h)
     (λ j h e. absurd (clash (in-parity j) e))
@@ -363,7 +359,7 @@ module _ (N m0 b : ℕ) (bits parity info par : List ℕ) where
           ≡ old (elementFec (elementIn w)) (elementBits * elementLocal (elementIn w) + i)
       by w n p m i l (yes q) =
           rw (eq-eqb (elementFec (elementIn w)) (fecOf b) q)
-          (untouched b bits parity (old (elementFec (elementIn w))) (elementBits * elementLocal (elementIn w) + i) (local-place-lt (elementIn w) i l)
+          (block-untouched b bits parity (old (elementFec (elementIn w))) (elementBits * elementLocal (elementIn w) + i) (local-place-lt (elementIn w) i l)
           (kept-bit w n p m q i l _ refl))
       by w n p m i l (no q) = rw (ne-eqb (elementFec (elementIn w)) (fecOf b) q)
 

@@ -2,6 +2,6 @@
 pub mod Allowed
 pub mod ReadLaws
 pub mod Demand2
-pub mod Undamaged
+pub mod AsCoded
 pub mod EditLaws
 pub mod Demand3

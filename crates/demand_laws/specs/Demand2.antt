@@ -7,16 +7,16 @@ use mathlib.Core.List.{List}
 use lib.Dec.{ltb}
 use lib.ListN.{length}
 use Rattle.bits.specs.Bits.{Bytes}
-use Rattle.bits.specs.Loops.{count}
-use Rattle.hamming.specs.Code.{turn}
+use Rattle.prelude.specs.Loops.{count}
+use Rattle.hamming.specs.Code.{flip}
 use Rattle.sizes.specs.Sizes.{wordBits, infoLength, parityLength, words}
 use Rattle.line.specs.Captures.{superAllowed}
 use Rattle.line.specs.Fec.{mbasAllowed}
 use Rattle.line_order.specs.Order.{laid, wordIn}
 use Rattle.answer.specs.Rows.{done}
 use Rattle.answer.specs.declared.Answer.{Answer}
-use Rattle.coder.specs.Code.{captureOf}
-use Rattle.reading.specs.Read.{readAnswer, readLeaves}
+use Rattle.code.specs.Code.{captureOf}
+use Rattle.read_spec.specs.Read.{readAnswer, readLeaves}
 
 -- what is asked of an input: N super frames, an allowed first number, and buffers of the stated lengths. Every input that document 01 allows
 -- is one: `input-all` of proofs/Allowed.antt
@@ -28,23 +28,23 @@ pub record Input (N m0 : ℕ) (info par : List ℕ) : Type 0 where
   pub parity-long : length par ≡ parityLength N
   pub parity-bytes : Bytes par
 
--- a choice of at most one bit for each word: a number below 128, the bits of a word, is that bit, any other number is none
-abbrev pub Choice : Type 0
-Choice = ℕ → ℕ
+-- at most one bit to be flipped in each word: a number below 128, the bits of a word, is that bit, any other number is none
+abbrev pub Flips : Type 0
+Flips = ℕ → ℕ
 
-abbrev pub chosen : Choice → ℕ → Bool
-chosen flips w = ltb (flips w) wordBits
+abbrev pub isFlipped : Flips → ℕ → Bool
+isFlipped flips w = ltb (flips w) wordBits
 
--- a word with the chosen bit turned, and a capture with each of its words so
-unfoldable pub hurt : List ℕ → ℕ → List ℕ
-hurt w p = cond (ltb p wordBits) (turn w p) w
+-- a word with that bit flipped, and a capture with each of its words so
+unfoldable pub flipIf : List ℕ → ℕ → List ℕ
+flipIf w p = cond (ltb p wordBits) (flip w p) w
 
-unfoldable pub damaged : ℕ → Choice → List ℕ → List ℕ
-damaged N flips cap = laid N (λ w. hurt (wordIn cap w) (flips w))
+unfoldable pub flipped : ℕ → Flips → List ℕ → List ℕ
+flipped N flips cap = laid N (λ w. flipIf (wordIn cap w) (flips w))
 
--- how many words have a bit chosen
-unfoldable pub howMany : ℕ → Choice → ℕ
-howMany N flips = count (chosen flips) (words N)
+-- how many words have a bit flipped
+unfoldable pub howMany : ℕ → Flips → ℕ
+howMany N flips = count (isFlipped flips) (words N)
 
 -- what reading comes to: the answer r, and what is left in the two buffers
 pub record ReadsBack (info par : List ℕ) (seen : ℕ) (r : Answer) (left : List ℕ × List ℕ) : Type 0 where
@@ -52,8 +52,8 @@ pub record ReadsBack (info par : List ℕ) (seen : ℕ) (r : Answer) (left : Lis
   pub buffers : left ≡ (info, par)
 
 -- whatever the two buffers held before
-abbrev pub Demand2 : ℕ → ℕ → List ℕ → List ℕ → Choice → Type 0
+abbrev pub Demand2 : ℕ → ℕ → List ℕ → List ℕ → Flips → Type 0
 Demand2 N m0 info par flips =
     (info₀ par₀ : List ℕ) → length info₀ ≡ infoLength N → length par₀ ≡ parityLength N
-    → ReadsBack info par (howMany N flips) (readAnswer N m0 (damaged N flips (captureOf N m0 info par)) info₀ par₀)
-    (readLeaves N m0 (damaged N flips (captureOf N m0 info par)) info₀ par₀)
+    → ReadsBack info par (howMany N flips) (readAnswer N m0 (flipped N flips (captureOf N m0 info par)) info₀ par₀)
+    (readLeaves N m0 (flipped N flips (captureOf N m0 info par)) info₀ par₀)

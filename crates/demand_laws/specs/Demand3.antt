@@ -7,16 +7,17 @@ use mathlib.Core.Path.{_≡_}
 use mathlib.Core.List.{List, _++_}
 use lib.Dec.{ltb, leb, eqb}
 use lib.ListN.{length, getD, drop}
-use Rattle.bits.specs.Bits.{tabulate, bitAt, pack}
-use Rattle.bits.specs.Loops.{count}
+use Rattle.prelude.specs.Lists.{tabulate}
+use Rattle.bits.specs.Bits.{bitAt, pack}
+use Rattle.prelude.specs.Loops.{count}
 use Rattle.answer.specs.Rows.{done}
 use Rattle.answer.specs.declared.Answer.{Answer}
 use Rattle.sizes.specs.Sizes.{captureLength, words, blockBits, clientBlocks, parityBytes, infoLength, parityLength, blocksOf, blockBytes, listLength}
 use Rattle.line.specs.Captures.{superAllowed}
 use Rattle.line_order.specs.Order.{wordAt}
-use Rattle.coder.specs.Code.{captureOf}
-use Rattle.editing.specs.Edit.{listed, listOf, spareSet, editAnswer, editLeaves}
-use Rattle.editing.specs.Listed.{Holding, Lists}
+use Rattle.code.specs.Code.{captureOf}
+use Rattle.edit_spec.specs.Edit.{listed, listOf, clientSpareSet, editAnswer, editLeaves}
+use Rattle.edit_spec.specs.Listed.{Holding, Lists}
 
 -- client block b of the capture stands at bits 257 b .. 257 b + 256 of the information
 unfoldable pub newInfo : ℕ → ℕ → List ℕ → List ℕ → List ℕ
@@ -35,7 +36,7 @@ pub record EditInput (N b : ℕ) (bits parity list : List ℕ) : Type 0 where
   pub frames : superAllowed N ≡ true
   pub block : b < blocksOf N
   pub bits-long : length bits ≡ blockBytes
-  pub spare : spareSet bits ≡ false
+  pub spare : clientSpareSet bits ≡ false
   pub parity-long : length parity ≡ parityBytes
   pub list-long : length list ≡ listLength
 

@@ -6,8 +6,8 @@ use mathlib.Core.List.{List, [], _∷_, _++_}
 use borrow.Author.Tests.{not-false}
 use lib.ListN.{length, drop}
 use Rattle.bits.specs.Bits.{Bytes}
-use Rattle.bits.specs.Loops.{count}
-use Rattle.bits.proofs.Common.{and-left, and-right}
+use Rattle.prelude.specs.Loops.{count}
+use Rattle.prelude.proofs.Common.{and-left, and-right}
 use Rattle.answer.specs.Numbers.{allDone, wrongLength}
 use Rattle.answer.specs.Rows.{Row, buffers, wrong}
 use Rattle.answer.specs.Outcomes.{Outcome, written}
@@ -18,43 +18,43 @@ use Rattle.answer.proofs.Meets.{written-done, written-refused, stops-there, goe
 use Rattle.sizes.specs.Sizes.{words, infoLength, parityLength, captureLength}
 use Rattle.line.specs.Captures.{superAllowed}
 use Rattle.line.specs.Fec.{mbasAllowed}
-use Rattle.coder.specs.Code.{captureOf, codeRows, codeAnswer, codeLeaves}
-use Rattle.coder.proofs.Judging.{code-rise}
-use Rattle.coder.proofs.Coding.{capture-long}
-use Rattle.reading.specs.Read.{isSeen, readEarlyRows, readLateRows, readAnswer, readLeaves}
-use Rattle.editing.specs.Edit.{listed, listOf, spareSet, editEarlyRows, editLateRows, editAnswer, editLeaves}
-use Rattle.demand_laws.specs.Demand2.{Input, damaged, howMany, ReadsBack}
+use Rattle.code.specs.Code.{captureOf, codeRows, codeAnswer, codeLeaves}
+use Rattle.code.proofs.Judging.{code-rise}
+use Rattle.code.proofs.Coding.{capture-long}
+use Rattle.read_spec.specs.Read.{isSeen, readEarlyRows, readLateRows, readAnswer, readLeaves}
+use Rattle.edit_spec.specs.Edit.{listed, listOf, clientSpareSet, editEarlyRows, editLateRows, editAnswer, editLeaves}
+use Rattle.demand_laws.specs.Demand2.{Input, flipped, howMany, ReadsBack}
 use Rattle.demand_laws.specs.Demand3.{newInfo, newParity, EditInput, EditsAsCoded}
 use Rattle.demand_laws.proofs.Demand2.{cap-long, late-done, given-input, demand-2}
 use Rattle.demand_laws.proofs.Demand3.{later-done, edited-afresh, demand-3}
-use Rattle.demands.specs.Demands.{choiceOf, damagedAnswer, codeReadAnswer, codeReadLeaves, CodesAndReads}
+use Rattle.demands.specs.Demands.{flipsOf, flippedAnswer, codeReadAnswer, codeReadLeaves, CodesAndReads}
 use Rattle.demands.specs.Demands.{codedEditAnswer, codeEditAnswer, codeEditLeaves, CodesAndEdits}
-use Rattle.demands.specs.Steps.{hurtBytes}
-use Rattle.demands.proofs.Hurting.{hurt-bytes}
+use Rattle.demands.specs.Steps.{flippedBytes}
+use Rattle.demands.proofs.Flipping.{flipped-bytes}
 
 -- ---- what reading and an edit answer to a coded capture, whatever the buffers are
 
 module _ (N m0 : ℕ) (info par flips info₀ par₀ : List ℕ) (input : Input N m0 info par) where
   abbrev cap : List ℕ
-  cap = damaged N (choiceOf flips) (captureOf N m0 info par)
+  cap = flipped N (flipsOf flips) (captureOf N m0 info par)
 
   -- of numbers 1 and 2 only the length of a buffer to be filled can apply
-  answers-any : readAnswer N m0 cap info₀ par₀ ≡ damagedAnswer N flips info₀ par₀
-  unfolding readAnswer readEarlyRows damagedAnswer inTurn rowThen faultsThen
+  answers-any : readAnswer N m0 cap info₀ par₀ ≡ flippedAnswer N flips info₀ par₀
+  unfolding readAnswer readEarlyRows flippedAnswer inTurn rowThen faultsThen
   answers-any =
       let inside : not (superAllowed N && mbasAllowed m0) ≡ false = rw (input .frames, input .number) in
       turn-late (readEarlyRows N m0 (length cap) (length info₀) (length par₀)) (readLateRows N m0 cap) (count (isSeen cap) (words N))
-      ∙ rw (inside, length-right (cap-long N m0 info par (choiceOf flips)), late-done N m0 info par (choiceOf flips))
+      ∙ rw (inside, length-right (cap-long N m0 info par (flipsOf flips)), late-done N m0 info par (flipsOf flips))
       (sym (in-turn (buffers wrongLength (false ∷ wrong (infoLength N) (length info₀) ∷ wrong (parityLength N) (length par₀) ∷ []) ∷ [])
-      (howMany N (choiceOf flips))))
+      (howMany N (flipsOf flips))))
 
-  leaves-any : readLeaves N m0 cap info₀ par₀ ≡ written (damagedAnswer N flips info₀ par₀) (info, par) (info₀, par₀)
+  leaves-any : readLeaves N m0 cap info₀ par₀ ≡ written (flippedAnswer N flips info₀ par₀) (info, par) (info₀, par₀)
   unfolding readLeaves
-  leaves-any = rw (answers-any, given-input N m0 info par (choiceOf flips) input)
+  leaves-any = rw (answers-any, given-input N m0 info par (flipsOf flips) input)
 
 module _ (N m0 b : ℕ) (info par bits parity list : List ℕ) where
   abbrev early : List Row
-  early = editEarlyRows N b (length bits) (length parity) (captureLength N) (length list) (spareSet bits)
+  early = editEarlyRows N b (length bits) (length parity) (captureLength N) (length list) (clientSpareSet bits)
 
   edit-any : editAnswer N b bits parity (captureOf N m0 info par) list ≡ codedEditAnswer N b bits parity list
   unfolding editAnswer codedEditAnswer
@@ -111,16 +111,16 @@ module _ (N m0 : ℕ) (info par cap : List ℕ) {m : Answer} {out : List ℕ}
     unfolding codeReadAnswer codeReadLeaves
     read-stops h = stops-there _ _ (coding .told) h (ap (λ (s : List ℕ). (s, (info₀, par₀))) (refused-kept h))
 
-    pub read-follows : {hurt : List ℕ} {r : Answer} {left : List ℕ × List ℕ} → Bytes info → Bytes par → m .number ≡ allDone → hurt ≡ hurtBytes flips out
-        → Outcome (readAnswer N m0 hurt info₀ par₀) (readLeaves N m0 hurt info₀ par₀) r left
-        → CodesAndReads N m0 info par flips cap info₀ par₀ r (hurt, left)
+    pub read-follows : {got : List ℕ} {r : Answer} {left : List ℕ × List ℕ} → Bytes info → Bytes par → m .number ≡ allDone → got ≡ flippedBytes flips out
+        → Outcome (readAnswer N m0 got info₀ par₀) (readLeaves N m0 got info₀ par₀) r left
+        → CodesAndReads N m0 info par flips cap info₀ par₀ r (got, left)
     unfolding codeReadAnswer codeReadLeaves
-    read-follows {hurt} bi bp z turned o =
+    read-follows {got} bi bp z flipping o =
         let made = coded z in
-        let c = choiceOf flips in
+        let c = flipsOf flips in
         let i = input z bi bp in
-        let q : hurt ≡ damaged N c (captureOf N m0 info par) =
-        turned ∙ hurt-bytes N flips out (ap length made ∙ capture-long N m0 info par) ∙ ap (damaged N c) made in
+        let q : got ≡ flipped N c (captureOf N m0 info par) =
+        flipping ∙ flipped-bytes N flips out (ap length made ∙ capture-long N m0 info par) ∙ ap (flipped N c) made in
         let a = ap (λ (s : List ℕ). readAnswer N m0 s info₀ par₀) q ∙ answers-any N m0 info par flips info₀ par₀ i in
         let l = ap (λ (s : List ℕ). readLeaves N m0 s info₀ par₀) q ∙ leaves-any N m0 info par flips info₀ par₀ i in
         goes-further _ (coding .told) z (record { told = o .told ∙ a; kept = rw (q, o .kept, l) })
@@ -162,10 +162,10 @@ module _ (N m0 : ℕ) (info par cap : List ℕ) (allowed : Input N m0 info par) 
 
   pub is-demand-2 : (flips info₀ par₀ : List ℕ) {r : Answer} {c : List ℕ} {left : List ℕ × List ℕ} → length info₀ ≡ infoLength N
       → length par₀ ≡ parityLength N → CodesAndReads N m0 info par flips cap info₀ par₀ r (c, left)
-      → ReadsBack info par (howMany N (choiceOf flips)) r left
+      → ReadsBack info par (howMany N (flipsOf flips)) r left
   unfolding codeReadAnswer codeReadLeaves
   is-demand-2 flips info₀ par₀ i₀ p₀ o =
-      let d = demand-2 N m0 info par allowed (choiceOf flips) info₀ par₀ i₀ p₀ in
+      let d = demand-2 N m0 info par allowed (flipsOf flips) info₀ par₀ i₀ p₀ in
       record {
         answer = o .told ∙ written-done coding _ _ code-done ∙ sym (answers-any N m0 info par flips info₀ par₀ allowed) ∙ d .answer;
         buffers = ap (λ (x : List ℕ × (List ℕ × List ℕ)). x .1) (o .kept ∙ written-done coding _ _ code-done)

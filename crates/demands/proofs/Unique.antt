@@ -9,7 +9,7 @@ use Rattle.answer.proofs.Meets.{only-outcome}
 use Rattle.demands.proofs.code.Reads as code
 use Rattle.demands.proofs.read.Reads as read
 use Rattle.demands.proofs.edit.Reads as edit
-use Rattle.demands.proofs.code_damage_read.Reads as code-damage-read
+use Rattle.demands.proofs.code_flip_read.Reads as code-flip-read
 use Rattle.demands.proofs.code_edit.Reads as code-edit
 use Rattle.demands.proofs.map_unmap.Reads as map-unmap
 
@@ -28,11 +28,11 @@ pub one-edit : (κs : _) (a : _) (x y : _) (s t : _) → edit.Post κs a x s →
 one-edit κs a x y s t p q = only-demand-1 p q
 
 -- parts 5, 6 and 7 are `capture`, `back` and `parity_back`
-pub one-code-damage-read : (κs : _) (a : _) (x y : _) (s t : _) → code-damage-read.Post κs a x s → code-damage-read.Post κs a y t
+pub one-code-flip-read : (κs : _) (a : _) (x y : _) (s t : _) → code-flip-read.Post κs a x s → code-flip-read.Post κs a y t
     → (x ≡ y) × _≡_ {A = List ℕ × (List ℕ × List ℕ)}
     (now (s .1 .1 .1 .1 .1 .0), (now (s .1 .1 .1 .1 .1 .1 .0), now (s .1 .1 .1 .1 .1 .1 .1 .0)))
     (now (t .1 .1 .1 .1 .1 .0), (now (t .1 .1 .1 .1 .1 .1 .0), now (t .1 .1 .1 .1 .1 .1 .1 .0)))
-one-code-damage-read κs a x y s t p q = only-outcome p q
+one-code-flip-read κs a x y s t p q = only-outcome p q
 
 -- parts 7 and 8 are `capture` and `list`
 pub one-code-edit : (κs : _) (a : _) (x y : _) (s t : _) → code-edit.Post κs a x s → code-edit.Post κs a y t

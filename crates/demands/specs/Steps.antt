@@ -1,18 +1,18 @@
--- A capture with the chosen bits turned, word by word, as the code does it. Assumes nothing: these are definitions.
+-- A capture with the named bits flipped, word by word, as the code does it. Assumes nothing: these are definitions.
 use Prim.Native.Nat.{ℕ, _/_}
 use mathlib.Core.List.{List}
 use lib.ListN.{length}
-use Rattle.bits.specs.Loops.{upto}
+use Rattle.prelude.specs.Loops.{upto}
 use Rattle.sizes.specs.Sizes.{wordBytes}
 use Rattle.line_order.specs.Order.{lineOrder}
-use Rattle.demand_laws.specs.Demand2.{hurt}
+use Rattle.demand_laws.specs.Demand2.{flipIf}
 use Rattle.line_order.specs.Steps.{replaceBy}
-use Rattle.demands.specs.Demands.{choiceOf}
+use Rattle.demands.specs.Demands.{flipsOf}
 
--- word w with the bit that is chosen for it turned
-abbrev pub hurtBy : List ℕ → ℕ → List ℕ → List ℕ
-hurtBy flips w v = hurt v (choiceOf flips w)
+-- word w with the bit that is named for it flipped
+abbrev pub flippedBy : List ℕ → ℕ → List ℕ → List ℕ
+flippedBy flips w v = flipIf v (flipsOf flips w)
 
 -- all words, one after the other
-unfoldable pub hurtBytes : List ℕ → List ℕ → List ℕ
-hurtBytes flips cap = upto (replaceBy lineOrder (hurtBy flips)) cap (length cap / wordBytes)
+unfoldable pub flippedBytes : List ℕ → List ℕ → List ℕ
+flippedBytes flips cap = upto (replaceBy lineOrder (flippedBy flips)) cap (length cap / wordBytes)

@@ -7,15 +7,15 @@ ghost use Prim.Native.Nat.{ℕ};
 ghost use lib.ListN.{length};
 ghost use Rattle.answer.specs.Outcomes.{Outcome};
 ghost use Rattle.answer.specs.Demand1.{Demand1};
-ghost use Rattle.bits.specs.Loops.{count};
+ghost use Rattle.prelude.specs.Loops.{count};
 ghost use Rattle.sizes.specs.Sizes.{words};
-ghost use Rattle.coder.specs.Code.{captureOf, codeRows};
-ghost use Rattle.reading.specs.Read.{isSeen, given, readRows};
-ghost use Rattle.editing.specs.Edit.{listed, edited, editRows};
-ghost use Rattle.mapping.specs.RoundTrip.{mapUnmapAnswer, mapUnmapLeaves};
-ghost use Rattle.demand_laws.specs.Demand2.{hurt};
-ghost use Rattle.demands.specs.Demands.{choiceOf, CodesAndReads, CodesAndEdits};
-ghost use Rattle.demands.specs.Steps.{hurtBytes};
+ghost use Rattle.code.specs.Code.{captureOf, codeRows};
+ghost use Rattle.read_spec.specs.Read.{isSeen, given, readRows};
+ghost use Rattle.edit_spec.specs.Edit.{listed, edited, editRows};
+ghost use Rattle.gmp_map.specs.RoundTrip.{mapUnmapAnswer, mapUnmapLeaves};
+ghost use Rattle.demand_laws.specs.Demand2.{flipIf};
+ghost use Rattle.demands.specs.Demands.{flipsOf, CodesAndReads, CodesAndEdits};
+ghost use Rattle.demands.specs.Steps.{flippedBytes};
 
 // Demand 1 of coding.
 pub fn code(n: u64, m0: u64, info: &[u8], parity: &[u8], capture: &mut [u8]) -> Answer
@@ -50,8 +50,8 @@ pub fn edit(
     capture::edit(n, block, bits, parity, capture, list)
 }
 
-// Demand 2: codes, turns in word w the bit that flips[w] names (128 or more is none), and reads.
-pub fn code_damage_read(
+// Demand 2: codes, flips in word w the bit that flips[w] names (128 or more is none), and reads.
+pub fn code_flip_read(
     n: u64,
     m0: u64,
     info: &[u8],
@@ -68,23 +68,23 @@ pub fn code_damage_read(
     if coded.number != 0 {
         return coded;
     }
-    damage(flips, capture);
+    flip_bits(flips, capture);
     capture::read(n, m0, capture, back, parity_back)
 }
 
 // Turns the chosen bits, word by word.
-fn damage(flips: &[u8], capture: &mut [u8])
-    ensures { λ _. ⌜ now (capture .exit) ≡ hurtBytes (now (flips .entry)) (now (capture .entry)) ⌝ }
+fn flip_bits(flips: &[u8], capture: &mut [u8])
+    ensures { λ _. ⌜ now (capture .exit) ≡ flippedBytes (now (flips .entry)) (now (capture .entry)) ⌝ }
 {
     for w in 0..capture.len() / sizes::WORD_BYTES {
-        let v = hurt_word(line_order::word_in(capture, w), choice(flips, w));
+        let v = flip_word(line_order::word_in(capture, w), flip_of(flips, w));
         line_order::put_word(capture, w, v);
     }
 }
 
-// The word v with its bit p turned, if it has one.
-fn hurt_word(v: [u8; 16], p: usize) -> [u8; 16]
-    ensures { λ r. ⌜ r ≡ hurt v p ⌝ }
+// The word v with its bit p flipped, if it has one.
+fn flip_word(v: [u8; 16], p: usize) -> [u8; 16]
+    ensures { λ r. ⌜ r ≡ flipIf v p ⌝ }
 {
     let mut r = v;
     if p < sizes::WORD_BITS {
@@ -93,9 +93,9 @@ fn hurt_word(v: [u8; 16], p: usize) -> [u8; 16]
     r
 }
 
-// The bit chosen for word w, or none.
-fn choice(flips: &[u8], w: usize) -> usize
-    ensures { λ r. ⌜ r ≡ choiceOf (now (flips .entry)) w ⌝ }
+// The bit that is flipped in word w, or none.
+fn flip_of(flips: &[u8], w: usize) -> usize
+    ensures { λ r. ⌜ r ≡ flipsOf (now (flips .entry)) w ⌝ }
 {
     if w < flips.len() {
         return bits::wide(flips[w]) as usize;
@@ -137,9 +137,9 @@ pub fn map_unmap(
     ensures { λ r. ⌜ Outcome {B = List ℕ × List ℕ} (mapUnmapAnswer c f n (now (groups .entry)) (now (window .entry)) (now (back .entry)))
         (mapUnmapLeaves c f n (now (groups .entry)) (now (window .entry)) (now (back .entry))) r (now (window .exit), now (back .exit)) ⌝ }
 {
-    let mapped = mapping::map(c, f, n, groups, window);
+    let mapped = gmp_map::map(c, f, n, groups, window);
     if mapped.number != 0 {
         return mapped;
     }
-    mapping::unmap(c, f, n, window, back)
+    gmp_map::unmap(c, f, n, window, back)
 }

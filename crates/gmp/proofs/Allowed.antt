@@ -6,7 +6,7 @@ use mathlib.Core.Path.{_≡_, refl, sym, _∙_}
 use mathlib.Core.Logic.{_↔_}
 use native.Mathlib.Omega.{arith}
 use borrow.Author.Tests.{ltb-false, eqb-false, le-ltb}
-use Rattle.bits.proofs.Common.{or-left, or-right}
+use Rattle.prelude.proofs.Common.{or-left, or-right}
 use Rattle.sizes.specs.Sizes.{places}
 use Rattle.gmp.specs.Places.{outsideStretch}
 use Rattle.gmp.specs.Answers.{outsidePlace}

@@ -5,7 +5,7 @@ use mathlib.Core.Path.{_≡_}
 use native.Mathlib.Nat.{mul-le-mul}
 use native.Mathlib.Omega.{arith}
 use lib.Dec.{ltb}
-use Rattle.bits.proofs.Common.{same-test}
+use Rattle.prelude.proofs.Common.{same-test}
 use Rattle.gmp.specs.Places.{dataFrom, outsideStretch}
 use Rattle.gmp.specs.Steps.{Stretch, DataIn, dataIn}
 use Rattle.sizes.specs.Sizes.{places}

@@ -25,8 +25,8 @@ all-stuff c j p e = ends-last c j places (to-end c j false p (λ k. stuff-of c k
 
 -- ---- a run of stuff: m is how often c fits into what the residue lacks
 
-over : (x y : ℕ) → places ≤ x % places + y → x % places + y < places + places → (x + y) % places ≡ x % places + y - places
-over x y h l = omega arith
+past-end : (x y : ℕ) → places ≤ x % places + y → x % places + y < places + places → (x + y) % places ≡ x % places + y - places
+past-end x y h l = omega arith
 
 module _ (c j m : ℕ) (p : Place c j) (pos : 0 < c) (s : c ≤ j * c % places)
     (low : m * c ≤ places - 1 - j * c % places) (high : places - 1 - j * c % places < m * c + c) where
@@ -47,7 +47,7 @@ module _ (c j m : ℕ) (p : Place c j) (pos : 0 < c) (s : c ≤ j * c % places)
   stuff-behind =
       let w : suc m * c ≡ m * c + c = omega arith in
       let e : (j + suc m) * c ≡ j * c + (m * c + c) = add-mul j (suc m) c ∙ ap (λ (x : ℕ). j * c + x) w in
-      rw (e, over (j * c) (m * c + c) (omega arith) (omega arith)) (omega arith)
+      rw (e, past-end (j * c) (m * c + c) (omega arith) (omega arith)) (omega arith)
 
   pub stuff-ends : EndsRun c j (j + m)
   stuff-ends =

@@ -6,15 +6,15 @@ use native.Mathlib.Nat.{zero-mul}
 use native.Mathlib.Omega.{arith}
 use borrow.Author.Tests.{lt-ltb, le-ltb, ltb-true, ltb-false}
 use lib.Dec.{ltb}
-use Rattle.bits.specs.Loops.{count}
-use Rattle.bits.proofs.Counting.{count-ext, count-add, count-le}
+use Rattle.prelude.specs.Loops.{count}
+use Rattle.prelude.proofs.Counting.{count-ext, count-add, count-le}
 use Rattle.sizes.specs.Sizes.{places}
 use Rattle.gmp.specs.Places.{isData, dataFrom}
 
 -- one place more: the residue comes round exactly where it is data
-one-more : (x y c : ℕ) (b : Bool) → ltb (y % places) c ≡ b → y ≡ x + c → c ≤ places → cond b (suc (x / places)) (x / places) ≡ y / places
-one-more x y c true e p h = omega (arith, ltb-true (y % places) c e)
-one-more x y c false e p h = omega (arith, ltb-false (y % places) c e)
+floor-more : (x y c : ℕ) (b : Bool) → ltb (y % places) c ≡ b → y ≡ x + c → c ≤ places → cond b (suc (x / places)) (x / places) ≡ y / places
+floor-more x y c true e p h = omega (arith, ltb-true (y % places) c e)
+floor-more x y c false e p h = omega (arith, ltb-false (y % places) c e)
 
 -- THE FLOOR: of the first j places, floor (j c / P) are data
 pub floor : (c j : ℕ) → c ≤ places → dataFrom c 1 j ≡ j * c / places
@@ -23,7 +23,7 @@ floor c zero h = rw zero-mul
 floor c (suc j) h =
     let e : 1 + j ≡ suc j = omega arith in
     let y : suc j * c ≡ j * c + c = omega arith in
-    rw (floor c j h, e) (one-more (j * c) (suc j * c) c (ltb (suc j * c % places) c) refl y h)
+    rw (floor c j h, e) (floor-more (j * c) (suc j * c) c (ltb (suc j * c % places) c) refl y h)
 
 -- the data places among those before place f
 abbrev pub before : ℕ → ℕ → ℕ

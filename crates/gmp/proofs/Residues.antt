@@ -51,5 +51,5 @@ pub last-residue : (c : ℕ) → places * c % places ≡ 0
 last-residue c = omega arith
 
 -- a product that a machine number holds
-pub product : (c j : ℕ) → Place c j → j * c ≤ places * places
-product c j p = mul-le-mul (p .to) (p .count)
+pub residue-product : (c j : ℕ) → Place c j → j * c ≤ places * places
+residue-product c j p = mul-le-mul (p .to) (p .count)

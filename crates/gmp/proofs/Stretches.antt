@@ -6,10 +6,10 @@ use mathlib.Core.Logic.{⊎-elim}
 use native.Mathlib.Nat.{add-zero, add-suc, eq-or-lt-of-le, lt-of-not-le}
 use native.Mathlib.Decide.{decLe}
 use native.Mathlib.Omega.{arith}
-use Rattle.bits.specs.Loops.{first, count}
-use Rattle.bits.proofs.LoopLaws.{First, first-holds, first-is, first-none}
-use Rattle.bits.proofs.Counting.{count-ext, count-add, count-le}
-use Rattle.bits.proofs.Common.{clash}
+use Rattle.prelude.specs.Loops.{first, count}
+use Rattle.prelude.proofs.LoopLaws.{First, first-holds, first-is, first-none}
+use Rattle.prelude.proofs.Counting.{count-ext, count-none, count-add, count-le}
+use Rattle.prelude.proofs.Common.{clash}
 use Rattle.gmp.specs.Places.{isData}
 use Rattle.sizes.specs.Sizes.{places}
 use Rattle.gmp.specs.Runs.{changes, lastOfRun, runsFrom, EndsRun}
@@ -17,43 +17,37 @@ use Rattle.gmp.specs.Runs.{changes, lastOfRun, runsFrom, EndsRun}
 -- ---- small laws
 
 -- b is the other of a where t says so
-abbrev pub turned : Bool → Bool → Bool
-turned t a = cond t (not a) a
+abbrev pub negatedIf : Bool → Bool → Bool
+negatedIf t a = cond t (not a) a
 
-beq-turned : (a t : Bool) → not (Bool·beq a (turned t a)) ≡ t
-beq-turned true true = refl
-beq-turned true false = refl
-beq-turned false true = refl
-beq-turned false false = refl
+beq-negated : (a t : Bool) → not (Bool·beq a (negatedIf t a)) ≡ t
+beq-negated true true = refl
+beq-negated true false = refl
+beq-negated false true = refl
+beq-negated false false = refl
 
-turned-beq : (a b : Bool) → b ≡ turned (not (Bool·beq a b)) a
-turned-beq true true = refl
-turned-beq true false = refl
-turned-beq false true = refl
-turned-beq false false = refl
+negated-beq : (a b : Bool) → b ≡ negatedIf (not (Bool·beq a b)) a
+negated-beq true true = refl
+negated-beq true false = refl
+negated-beq false true = refl
+negated-beq false false = refl
 
 not-self : (a : Bool) → a ≡ not a → ⊥
 not-self true e = clash refl e
 not-self false e = clash e refl
-
--- a test that picks nothing below n picks none
-count-none : (p : ℕ → Bool) (n : ℕ) → ((k : ℕ) → k < n → p k ≡ false) → count p n ≡ 0
-unfolding count
-count-none p zero h = refl
-count-none p (suc n) h = rw (h n (omega arith)) (count-none p n (λ k l. h k (omega arith)))
 
 -- the first that a test picks is the only number of which that can be said
 first-only : (p : ℕ → Bool) (n k : ℕ) → First p n k → first p n ≡ k
 first-only p n k f = ⊎-elim (λ e. rw e (first-none p n (λ i l. f .none i (rw e l)))) (λ l. first-is p k n (f .none) l (f .here l)) (eq-or-lt-of-le (f .within))
 
 module _ (c j k : ℕ) (t : Bool) where
-  changes-is : isData c (suc (j + k)) ≡ turned t (isData c (j + k)) → changes c j k ≡ t
+  changes-is : isData c (suc (j + k)) ≡ negatedIf t (isData c (j + k)) → changes c j k ≡ t
   unfolding changes
-  changes-is e = rw e (beq-turned (isData c (j + k)) t)
+  changes-is e = rw e (beq-negated (isData c (j + k)) t)
 
-  changes-says : changes c j k ≡ t → isData c (suc (j + k)) ≡ turned t (isData c (j + k))
+  changes-says : changes c j k ≡ t → isData c (suc (j + k)) ≡ negatedIf t (isData c (j + k))
   unfolding changes
-  changes-says e = turned-beq (isData c (j + k)) (isData c (suc (j + k))) ∙ ap (λ (x : Bool). turned x (isData c (j + k))) e
+  changes-says e = negated-beq (isData c (j + k)) (isData c (suc (j + k))) ∙ ap (λ (x : Bool). negatedIf x (isData c (j + k))) e
 
 -- ---- a run's end is the first change
 
@@ -116,9 +110,9 @@ no-longer c j b h l same = by (decLe b (lastOfRun c j))
 -- ---- counting runs
 
 -- the changes behind l, counted from j and from the place behind l
-shifted : (c j l k : ℕ) → j ≤ l → changes c j (l - j + (1 + k)) ≡ changes c (suc l) k
+stretch-shifted : (c j l k : ℕ) → j ≤ l → changes c j (l - j + (1 + k)) ≡ changes c (suc l) k
 unfolding changes
-shifted c j l k h = let e : j + (l - j + (1 + k)) ≡ suc l + k = omega arith in rw e
+stretch-shifted c j l k h = let e : j + (l - j + (1 + k)) ≡ suc l + k = omega arith in rw e
 
 -- the last run of all
 pub runs-last : (c j : ℕ) → EndsRun c j places → runsFrom c j ≡ 1
@@ -141,7 +135,7 @@ runs-more c j l e h =
     let all : count p (places - j) ≡ count p (l - j) + count q (1 + m) = ap (count p) n ∙ count-add p (l - j) (1 + m) in
     let none : count p (l - j) ≡ 0 = count-none p (l - j) (f .none) in
     let here : count q 1 ≡ 1 = count-one q (ap p (add-zero (l - j)) ∙ f .here (omega (arith, e .from))) in
-    let rest : count (λ k. q (1 + k)) m ≡ count (changes c (suc l)) m = count-ext (λ k. q (1 + k)) (changes c (suc l)) m (λ k i. shifted c j l k (e .from)) in
+    let rest : count (λ k. q (1 + k)) m ≡ count (changes c (suc l)) m = count-ext (λ k. q (1 + k)) (changes c (suc l)) m (λ k i. stretch-shifted c j l k (e .from)) in
     omega (arith, all, none, here, rest, count-add q 1 m)
 
 -- at most one for each place

@@ -2,7 +2,7 @@
 -- contract's own `ensures`, so a weaker contract would not pass here. Assumes nothing.
 use mathlib.Core.Path.{_≡_, refl, ap}
 use native.Mathlib.Omega.{arith}
-use Rattle.bits.proofs.Common.{only}
+use Rattle.prelude.proofs.Common.{only}
 use Rattle.gmp.specs.Places.{kindNumber}
 use Rattle.gmp.specs.Answers.{Told, told}
 use Rattle.gmp.specs.declared.told.Kind.{Kind}

@@ -2,7 +2,7 @@
 use Prim.Native.Nat.{ℕ, _+_, _-_, _*_, _%_}
 use mathlib.Core.Bool.{Bool, cond, _||_}
 use lib.Dec.{ltb}
-use Rattle.bits.specs.Loops.{count}
+use Rattle.prelude.specs.Loops.{count}
 use Rattle.sizes.specs.Sizes.{places}
 use Rattle.gmp.specs.declared.told.Kind.{Kind}
 use Rattle.gmp.specs.declared.told.Kind.the-variants.{Stuff, Data}

@@ -2,7 +2,7 @@
 use Prim.Native.Nat.{ℕ, suc, _+_, _-_, _≤_, _<_}
 use mathlib.Core.Bool.{Bool, not, Bool·beq}
 use mathlib.Core.Path.{_≡_}
-use Rattle.bits.specs.Loops.{first, count}
+use Rattle.prelude.specs.Loops.{first, count}
 use Rattle.sizes.specs.Sizes.{places}
 use Rattle.gmp.specs.Places.{isData}
 

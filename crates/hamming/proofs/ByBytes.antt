@@ -7,15 +7,16 @@ use native.Mathlib.Omega.{arith}
 use lib.Bits.{xor-zero-r}
 use lib.ListN.{length, length-set, getD, set}
 use lib.Seq.{getD-set-same, getD-set-other}
-use Rattle.bits.specs.Bits.{tabulate, num, digit, bitAt, Bits, Bytes}
-use Rattle.bits.proofs.Lists.{is-table, getD-tabulate}
+use Rattle.prelude.specs.Lists.{tabulate}
+use Rattle.bits.specs.Bits.{num, digit, bitAt, Bits, Bytes}
+use Rattle.prelude.proofs.Lists.{is-table, getD-tabulate}
 use Rattle.bits.proofs.Numbers.{num-ext, num-front, num-back, num-digit, num-more, digit-lt}
 use Rattle.bits.proofs.Packing.{bitOf-lt, bitOf-at, num-bitOf}
 use Rattle.sizes.specs.Sizes.{checkBits, wordBytes, checkValues}
-use Rattle.matrix.specs.Columns.{columns, columnOf}
-use Rattle.matrix.specs.Sums.{sumTo, taken, tailSum, tailOf}
+use Rattle.hamming_matrix.specs.Columns.{columns, columnOf}
+use Rattle.hamming_matrix.specs.Sums.{sumTo, columnTaken, tailSum, tailOf}
 use Rattle.hamming.specs.Code.{checksOf, elementSum, joined, joinedWord, coded}
-use Rattle.matrix.proofs.Sums.{sum-same, sum-blocks, taken-same}
+use Rattle.hamming_matrix.proofs.Sums.{sum-same, sum-blocks, taken-same}
 use Rattle.hamming.specs.Steps.{byteSum}
 use Rattle.hamming.proofs.Words.{checks-joined, joined-low, joined-high}
 
@@ -26,9 +27,9 @@ byteOfSum w k = byteSum k (getD w k 0)
 pub checks-bytes : (w : List ℕ) → sumTo (byteOfSum w) wordBytes ≡ checksOf w
 unfolding checksOf byteOfSum byteSum
 checks-bytes w =
-    sym (sum-blocks (taken 0 (bitAt w)) 8 wordBytes
-    ∙ sum-same (λ k. sumTo (λ j. taken 0 (bitAt w) (8 * k + j)) 8) (byteOfSum w) wordBytes
-    (λ k h. sum-same (λ j. taken 0 (bitAt w) (8 * k + j)) (taken (8 * k) (digit 8 (getD w k 0))) 8
+    sym (sum-blocks (columnTaken 0 (bitAt w)) 8 wordBytes
+    ∙ sum-same (λ k. sumTo (λ j. columnTaken 0 (bitAt w) (8 * k + j)) 8) (byteOfSum w) wordBytes
+    (λ k h. sum-same (λ j. columnTaken 0 (bitAt w) (8 * k + j)) (columnTaken (8 * k) (digit 8 (getD w k 0))) 8
     (λ j l. taken-same 0 (8 * k) (bitAt w) (digit 8 (getD w k 0)) (8 * k + j) j (bitOf-at 8 w k j l) (omega arith))))
 
 -- an entry of a table, by equations
@@ -37,7 +38,7 @@ entry-is f n t i c e p h = ap₂ (λ (l : List ℕ) (k : ℕ). getD l k 0) e p �
 
 -- the 119 bits alone, with nine zeros
 pub checks-alone : (f : ℕ → ℕ) → Bits f → checksOf (joinedWord f 0) ≡ elementSum f
-unfolding tailSum sumTo taken digit columnOf columns
+unfolding tailSum sumTo columnTaken digit columnOf columns
 checks-alone f b = checks-joined f 0 b ∙ xor-zero-r (elementSum f)
 
 -- so the code word is closed by what these add

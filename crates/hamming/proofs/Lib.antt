@@ -1,5 +1,5 @@
 -- The laws of words, checks and repair, for every crate above.
-pub mod Turning
+pub mod Flipping
 pub mod Words
 pub mod Repairs
 pub mod ByBytes

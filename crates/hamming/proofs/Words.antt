@@ -9,15 +9,16 @@ use lib.Bits.{bitXor, xor-self}
 use lib.Dec.{lit<}
 use lib.ListN.{length, getD, replicate, getD-replicate}
 use Rattle.bits.specs.Bits.{num, digit, bitOf, bitAt, pack, packs, Bits, Bytes}
-use Rattle.bits.proofs.Common.{by-bound, xor-none}
-use Rattle.bits.proofs.Lists.{getD-tabulate, getD-past}
+use Rattle.bits.proofs.Xor.{xor-none}
+use Rattle.prelude.proofs.Common.{by-bound}
+use Rattle.prelude.proofs.Lists.{getD-tabulate, getD-past}
 use Rattle.bits.proofs.Numbers.{num-lt, digit-num, digit-lt}
 use Rattle.bits.proofs.Packing.{bitOf-lt, bitOf-packs, length-packs, packs-bitOf, packs-ext}
 use Rattle.sizes.specs.Sizes.{elementBits, wordBits, checkBits, wordBytes, checkValues}
-use Rattle.matrix.specs.Sums.{taken, tailSum, tailOf}
-use Rattle.hamming.specs.Code.{checksOf, elementSum, joined, joinedWord, coded, wordOf}
-use Rattle.matrix.proofs.Sums.{sum-same, sum-zero, sum-lt, sum-split, taken-same, taken-none, taken-lt}
-use Rattle.matrix.proofs.Matrix.{column-lt, tail-sum, tail-back}
+use Rattle.hamming_matrix.specs.Sums.{columnTaken, tailSum, tailOf}
+use Rattle.hamming.specs.Code.{checksOf, elementSum, joined, joinedWord, coded, codeWord}
+use Rattle.hamming_matrix.proofs.Sums.{sum-same, sum-zero, sum-lt, sum-split, taken-same, taken-none, taken-lt}
+use Rattle.hamming_matrix.proofs.Matrix.{column-lt, tail-sum, tail-back}
 
 -- ---- 119 bits and nine
 
@@ -51,28 +52,28 @@ pub checks-joined : (f : ℕ → ℕ) (p : ℕ) → Bits f → checksOf (joinedW
 unfolding checksOf elementSum tailSum
 checks-joined f p b =
     let v = bitAt (joinedWord f p) in
-    sum-split (taken 0 v) elementBits checkBits
+    sum-split (columnTaken 0 v) elementBits checkBits
     ∙ ap₂ bitXor
-    (sum-same (taken 0 v) (taken 0 f) elementBits (λ i h. taken-same 0 0 v f i i (joined-bit f p i b (omega arith) ∙ joined-low f p i h) refl))
-    (sum-same (λ j. taken 0 v (elementBits + j)) (taken elementBits (digit checkBits p)) checkBits
+    (sum-same (columnTaken 0 v) (columnTaken 0 f) elementBits (λ i h. taken-same 0 0 v f i i (joined-bit f p i b (omega arith) ∙ joined-low f p i h) refl))
+    (sum-same (λ j. columnTaken 0 v (elementBits + j)) (columnTaken elementBits (digit checkBits p)) checkBits
     (λ j h. taken-same 0 elementBits v (digit checkBits p) (elementBits + j) j (joined-bit f p (elementBits + j) b (omega arith) ∙ joined-high f p j)
     (omega arith)))
 
 pub element-lt : (f : ℕ → ℕ) → Bits f → elementSum f < checkValues
 unfolding elementSum
 element-lt f b =
-    sum-lt checkBits (taken 0 f) elementBits (lit< tt) (λ i h. taken-lt 0 f i checkValues b (rw (zero-add i) (column-lt i (omega arith))))
+    sum-lt checkBits (columnTaken 0 f) elementBits (lit< tt) (λ i h. taken-lt 0 f i checkValues b (rw (zero-add i) (column-lt i (omega arith))))
 
 pub tail-sum-lt : (p : ℕ) → tailSum p < checkValues
 unfolding tailSum
 tail-sum-lt p =
-    sum-lt checkBits (taken elementBits (digit checkBits p)) checkBits (lit< tt)
+    sum-lt checkBits (columnTaken elementBits (digit checkBits p)) checkBits (lit< tt)
     (λ j h. taken-lt elementBits (digit checkBits p) j checkValues (digit-lt checkBits p) (column-lt (elementBits + j) (omega arith)))
 
 pub checks-lt : (w : List ℕ) → checksOf w < checkValues
 unfolding checksOf
 checks-lt w =
-    sum-lt checkBits (taken 0 (bitAt w)) wordBits (lit< tt) (λ i h. taken-lt 0 (bitAt w) i checkValues (bitOf-lt 8 w) (rw (zero-add i) (column-lt i h)))
+    sum-lt checkBits (columnTaken 0 (bitAt w)) wordBits (lit< tt) (λ i h. taken-lt 0 (bitAt w) i checkValues (bitOf-lt 8 w) (rw (zero-add i) (column-lt i h)))
 
 -- ---- the code word
 
@@ -95,7 +96,7 @@ coded-checks f b =
 -- only the first 119 bits count
 pub element-ext : (f g : ℕ → ℕ) → ((i : ℕ) → i < elementBits → f i ≡ g i) → elementSum f ≡ elementSum g
 unfolding elementSum
-element-ext f g e = sum-same (taken 0 f) (taken 0 g) elementBits (λ i h. taken-same 0 0 f g i i (e i h) refl)
+element-ext f g e = sum-same (columnTaken 0 f) (columnTaken 0 g) elementBits (λ i h. taken-same 0 0 f g i i (e i h) refl)
 
 joined-ext : (f g : ℕ → ℕ) (p : ℕ) → ((i : ℕ) → i < elementBits → f i ≡ g i) → (i : ℕ) → joined f p i ≡ joined g p i
 joined-ext f g p e =
@@ -157,12 +158,12 @@ zero-byte (suc n) (suc k) = zero-byte n k
 zero-checks : checksOf (replicate wordBytes 0) ≡ 0
 unfolding checksOf
 zero-checks =
-    let v = bitAt (replicate wordBytes 0) in sum-zero (taken 0 v) wordBits (λ i h. taken-none 0 v i (zero-bit i h))
+    let v = bitAt (replicate wordBytes 0) in sum-zero (columnTaken 0 v) wordBits (λ i h. taken-none 0 v i (zero-bit i h))
 
 pub coded-zero : coded (λ i. 0) ≡ replicate wordBytes 0
 coded-zero =
     sym (coded-only (replicate wordBytes 0) (λ i. 0) refl (zero-byte wordBytes) zero-checks (λ i h. zero-bit i (omega arith)))
 
 -- the element of zeros gives the word of zeros
-pub word-zero : wordOf (replicate wordBytes 0) ≡ replicate wordBytes 0
+pub word-zero : codeWord (replicate wordBytes 0) ≡ replicate wordBytes 0
 word-zero = coded-ext (bitAt (replicate wordBytes 0)) (λ i. 0) (λ i h. zero-bit i (omega arith)) ∙ coded-zero

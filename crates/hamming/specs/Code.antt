@@ -8,19 +8,19 @@ use lib.Dec.{ltb}
 use lib.ListN.{getD, set}
 use Rattle.bits.specs.Bits.{digit, bitAt, pack}
 use Rattle.sizes.specs.Sizes.{elementBits, wordBits, checkBits, wordBytes}
-use Rattle.matrix.specs.Sums.{sumTo, taken, tailOf}
+use Rattle.hamming_matrix.specs.Sums.{sumTo, columnTaken, tailOf}
 
 -- the nine checks of a word, as a number: the row of s0 on top
 unfoldable pub checksOf : List ℕ → ℕ
-checksOf w = sumTo (taken 0 (bitAt w)) wordBits
+checksOf w = sumTo (columnTaken 0 (bitAt w)) wordBits
 
--- the word with bit i turned: the top bit of a byte is 128
-unfoldable pub turn : List ℕ → ℕ → List ℕ
-turn w i = set w (i / 8) (bitXor (getD w (i / 8) 0) (128 / 2 ^ (i % 8)))
+-- the word with bit i flipped: the top bit of a byte is 128
+unfoldable pub flip : List ℕ → ℕ → List ℕ
+flip w i = set w (i / 8) (bitXor (getD w (i / 8) 0) (128 / 2 ^ (i % 8)))
 
 -- what 119 bits add to the checks
 unfoldable pub elementSum : (ℕ → ℕ) → ℕ
-elementSum f = sumTo (taken 0 f) elementBits
+elementSum f = sumTo (columnTaken 0 f) elementBits
 
 -- the 119 bits f, and then the nine bits p
 unfoldable pub joined : (ℕ → ℕ) → ℕ → ℕ → ℕ
@@ -35,5 +35,5 @@ unfoldable pub coded : (ℕ → ℕ) → List ℕ
 coded f = joinedWord f (tailOf (elementSum f))
 
 -- the code word of an element, whose bits 119 .. 127 are ignored
-abbrev pub wordOf : List ℕ → List ℕ
-wordOf e = coded (bitAt e)
+abbrev pub codeWord : List ℕ → List ℕ
+codeWord e = coded (bitAt e)

@@ -3,16 +3,16 @@ ghost use mathlib.Core.Path.{_≡_};
 ghost use Prim.Native.Nat.{_*_, _%_, _^_, _<_};
 ghost use Rattle.sizes.specs.Sizes.{wordBits, checkBits, wordBytes};
 ghost use Rattle.bits.specs.Bits.{digit, bitAt};
-ghost use Rattle.matrix.specs.Columns.{columns, positionOf};
-ghost use Rattle.matrix.specs.Sums.{tailOf};
-ghost use Rattle.hamming.specs.Code.{checksOf, turn, joinedWord, wordOf};
+ghost use Rattle.hamming_matrix.specs.Columns.{columns, positionOf};
+ghost use Rattle.hamming_matrix.specs.Sums.{tailOf};
+ghost use Rattle.hamming.specs.Code.{checksOf, flip, joinedWord, codeWord};
 ghost use Rattle.hamming.specs.Steps.{byteSum, foundOf};
-ghost use Rattle.hamming.specs.Repair.{repairAt, repairOf, numberOf};
+ghost use Rattle.hamming.specs.Repair.{repairAt, repairOf, foundNumber};
 
-// What repair found: nothing, the bit that it turned, or more than it can repair.
+// What repair found: nothing, the bit that it flipped back, or more than it can repair.
 pub enum Found {
     Clean,
-    Turned(u8),
+    Flipped(u8),
     Beyond,
 }
 
@@ -23,11 +23,11 @@ pub struct Repaired {
 
 // The refusal that a repair comes to, by document 01's numbers.
 pub fn number(found: Found) -> u8
-    ensures { λ r. ⌜ r ≡ numberOf found ⌝ }
+    ensures { λ r. ⌜ r ≡ foundNumber found ⌝ }
 {
     match found {
         Found::Clean => 0,
-        Found::Turned(_) => 0,
+        Found::Flipped(_) => 0,
         Found::Beyond => 4,
     }
 }
@@ -38,7 +38,7 @@ pub fn is_found(found: Found) -> bool
 {
     match found {
         Found::Clean => false,
-        Found::Turned(_) => true,
+        Found::Flipped(_) => true,
         Found::Beyond => true,
     }
 }
@@ -75,7 +75,7 @@ fn byte_sum(t: &[u16; 128], k: usize, x: u8) -> u16
 pub fn checks(w: [u8; 16]) -> u16
     ensures { λ r. ⌜ r ≡ checksOf w ⌝ }
 {
-    let t = matrix::column_table();
+    let t = hamming_matrix::column_table();
     let mut sum = 0u16;
     for k in 0..sizes::WORD_BYTES {
         sum = sum ^ byte_sum(&t, k, w[k]);
@@ -99,13 +99,13 @@ fn tail(c: u16) -> u16
     requires { ⌜ c < 2 ^ checkBits ⌝ }
     ensures { λ r. ⌜ r ≡ tailOf c ⌝ }
 {
-    let tails = matrix::tail_table();
+    let tails = hamming_matrix::tail_table();
     tails[c as usize]
 }
 
 // The code word of an element: its bits 0..118, and the nine that make all checks zero. Bits 119..127 of the argument are ignored.
 pub fn encode(e: [u8; 16]) -> [u8; 16]
-    ensures { λ r. ⌜ r ≡ wordOf e ⌝ }
+    ensures { λ r. ⌜ r ≡ codeWord e ⌝ }
 {
     join(e, tail(checks(join(e, 0))))
 }
@@ -115,14 +115,14 @@ fn position(c: u16) -> u8
     requires { ⌜ c < 2 ^ checkBits ⌝ }
     ensures { λ r. ⌜ r ≡ positionOf c ⌝ }
 {
-    let positions = matrix::position_table();
+    let positions = hamming_matrix::position_table();
     positions[c as usize]
 }
 
-// The word with bit i turned.
-fn turned(w: [u8; 16], i: usize) -> [u8; 16]
+// The word with bit i flipped.
+fn flipped(w: [u8; 16], i: usize) -> [u8; 16]
     requires { ⌜ i < wordBits ⌝ }
-    ensures { λ r. ⌜ r ≡ turn w i ⌝ }
+    ensures { λ r. ⌜ r ≡ flip w i ⌝ }
 {
     let mut v = w;
     v[i / 8] = v[i / 8] ^ (128 >> (i % 8));
@@ -140,10 +140,10 @@ pub fn repair_at(w: [u8; 16], c: u16, i: u8) -> Repaired
         };
     }
     if i < sizes::WORD_BITS as u8 {
-        let v = turned(w, i as usize);
+        let v = flipped(w, i as usize);
         return Repaired {
             word: v,
-            found: Found::Turned(i),
+            found: Found::Flipped(i),
         };
     }
     Repaired {
@@ -152,7 +152,7 @@ pub fn repair_at(w: [u8; 16], c: u16, i: u8) -> Repaired
     }
 }
 
-// Any sixteen bytes: one wrong bit is turned back.
+// Any sixteen bytes: one wrong bit is flipped back.
 pub fn repair(w: [u8; 16]) -> Repaired
     ensures { λ r. ⌜ r ≡ repairOf w ⌝ }
 {

@@ -5,7 +5,7 @@ use mathlib.Core.Path.{_≡_, sym, _∙_}
 use borrow.Author.Tests.{leb-true, le-leb, not-false}
 use lib.Dec.{leb}
 use Rattle.sizes.specs.Sizes.{mostFrames}
-use Rattle.bits.proofs.Common.{and-left, and-right}
+use Rattle.prelude.proofs.Common.{and-left, and-right}
 use Rattle.line.specs.Captures.{superAllowed}
 
 pub record SuperFrames (N : ℕ) : Type 0 where

@@ -10,7 +10,7 @@ use lib.ListN.{length}
 use Rattle.bits.specs.Bits.{digit, bitAt, pack, Bits, Bytes}
 use Rattle.bits.proofs.Numbers.{digit-lt}
 use Rattle.bits.proofs.Packing.{bitOf-lt, packs-ext, packs-bitOf}
-use Rattle.bits.proofs.Common.{cond-bit}
+use Rattle.prelude.proofs.Common.{cond-bit}
 use Rattle.sizes.specs.Sizes.{infoBits, crcBits, mbasBits, parityBits, mbasFrom, parityFrom, fecBits, infoLength, parityLength}
 use Rattle.line.specs.Fec.{mbasOf, fields, infoBit, parityBit, blockCrc, fecBit}
 use Rattle.line.specs.Frames.{infoOf, parityOf}
@@ -47,8 +47,8 @@ module _ (a b c d : ℕ → ℕ) where
       (cond-bit (ltb i mbasFrom) (b (i - infoBits)) _ (hb (i - infoBits))
       (cond-bit (ltb i parityFrom) (c (i - mbasFrom)) _ (hc (i - mbasFrom)) (hd (i - parityFrom))))
 
-over : (i a : ℕ) → a ≤ i → a + (i - a) ≡ i
-over i a h = omega arith
+past-fields : (i a : ℕ) → a ≤ i → a + (i - a) ≡ i
+past-fields i a h = omega arith
 
 -- what holds in each field holds in the whole block
 module _ (P : ℕ → Type 0) (inInfo : (i : ℕ) → i < infoBits → P i) (inCrc : (j : ℕ) → j < crcBits → P (infoBits + j))
@@ -56,11 +56,11 @@ module _ (P : ℕ → Type 0) (inInfo : (i : ℕ) → i < infoBits → P i) (inC
   by-place : (x y z : Bool) (i : ℕ) → ltb i infoBits ≡ x → ltb i mbasFrom ≡ y → ltb i parityFrom ≡ z → i < fecBits → P i
   by-place true y z i p q r h = inInfo i (ltb-true i infoBits p)
   by-place false true z i p q r h =
-      subst P (over i infoBits (ltb-false i infoBits p)) (inCrc (i - infoBits) (omega (arith, ltb-true i mbasFrom q, ltb-false i infoBits p)))
+      subst P (past-fields i infoBits (ltb-false i infoBits p)) (inCrc (i - infoBits) (omega (arith, ltb-true i mbasFrom q, ltb-false i infoBits p)))
   by-place false false true i p q r h =
-      subst P (over i mbasFrom (ltb-false i mbasFrom q)) (inMbas (i - mbasFrom) (omega (arith, ltb-true i parityFrom r, ltb-false i mbasFrom q)))
+      subst P (past-fields i mbasFrom (ltb-false i mbasFrom q)) (inMbas (i - mbasFrom) (omega (arith, ltb-true i parityFrom r, ltb-false i mbasFrom q)))
   by-place false false false i p q r h =
-      subst P (over i parityFrom (ltb-false i parityFrom r)) (inParity (i - parityFrom) (omega (arith, ltb-false i parityFrom r)))
+      subst P (past-fields i parityFrom (ltb-false i parityFrom r)) (inParity (i - parityFrom) (omega (arith, ltb-false i parityFrom r)))
 
   pub fields-all : (i : ℕ) → i < fecBits → P i
   fields-all i h = by-place (ltb i infoBits) (ltb i mbasFrom) (ltb i parityFrom) i refl refl refl h
@@ -76,9 +76,9 @@ pub info-bits : (info : List ℕ) (t : ℕ) → Bits (infoBit info t)
 unfolding infoBit
 info-bits info t i = bitOf-lt 8 info (infoBits * t + i)
 
-pub parity-bits : (par : List ℕ) (t : ℕ) → Bits (parityBit par t)
+pub fec-parity-bits : (par : List ℕ) (t : ℕ) → Bits (parityBit par t)
 unfolding parityBit
-parity-bits par t i = bitOf-lt 8 par (parityBits * t + i)
+fec-parity-bits par t i = bitOf-lt 8 par (parityBits * t + i)
 
 module _ (m0 : ℕ) (info par : List ℕ) (t : ℕ) where
   abbrev crcDigit : ℕ → ℕ
@@ -107,7 +107,7 @@ module _ (m0 : ℕ) (info par : List ℕ) (t : ℕ) where
   unfolding fecBit
   fec-bits =
       fields-bits (infoBit info t) crcDigit mbasDigit (parityBit par t) (info-bits info t) (digit-lt crcBits (blockCrc info t))
-      (digit-lt mbasBits (mbasOf m0 t)) (parity-bits par t)
+      (digit-lt mbasBits (mbasOf m0 t)) (fec-parity-bits par t)
 
 -- ---- information and parity come back from bits that agree with the blocks'
 

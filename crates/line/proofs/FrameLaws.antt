@@ -6,13 +6,13 @@ use native.Mathlib.Omega.{arith}
 use borrow.Author.Tests.{lt-ltb, le-ltb}
 use lib.Dec.{ltb}
 use Rattle.bits.specs.Bits.{Bits}
-use Rattle.bits.proofs.Common.{cond-bit}
+use Rattle.prelude.proofs.Common.{cond-bit}
 use Rattle.scrambler.specs.Scrambler.{o}
 use Rattle.sizes.specs.Sizes.{fecBits, fecBlocks, padFrom, superBits, elementBits, superElements, fecElements}
 use Rattle.line.specs.Frames.{superOf, elementOf, superFrom, fecFrom}
 
-twice : (a b : ℕ) → a < 2 → ((a + b) % 2 + b) % 2 ≡ a
-twice a b h = omega arith
+scrambled-twice : (a b : ℕ) → a < 2 → ((a + b) % 2 + b) % 2 ≡ a
+scrambled-twice a b h = omega arith
 
 -- ---- super frames and their elements
 
@@ -36,7 +36,7 @@ pub super-back : (S E : ℕ → ℕ → ℕ) (f k : ℕ) → k < superBits → S
 unfolding superFrom
 super-back S E f k h b same =
     let p : elementBits * (k / elementBits) + k % elementBits ≡ k = omega arith in
-    rw (same (k % elementBits) (omega arith), element-at S f (k / elementBits) (k % elementBits) (omega arith), p) (twice (S f k) (o k) b)
+    rw (same (k % elementBits) (omega arith), element-at S f (k / elementBits) (k % elementBits) (omega arith), p) (scrambled-twice (S f k) (o k) b)
 
 -- ---- super frames and their FEC blocks
 

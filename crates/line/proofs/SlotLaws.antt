@@ -6,10 +6,10 @@ use mathlib.Core.Path.{_≡_, refl, sym, ap, _∙_}
 use native.Mathlib.Omega.{arith}
 use borrow.Author.Tests.{ltb-true, ltb-false, leb-true, lt-ltb, le-ltb, le-leb, lt-leb}
 use lib.Dec.{ltb, leb}
-use Rattle.bits.specs.Loops.{count}
+use Rattle.prelude.specs.Loops.{count}
 use Rattle.bits.specs.Bits.{Bits}
-use Rattle.bits.proofs.Counting.{count-ext}
-use Rattle.bits.proofs.Common.{and-left, and-right, cond-bit}
+use Rattle.prelude.proofs.Counting.{count-ext}
+use Rattle.prelude.proofs.Common.{and-left, and-right, cond-bit}
 use Rattle.sizes.specs.Sizes.{superElements, words, rows, longestWait}
 use Rattle.line.specs.Slots.{delay, slotOf, elementIn, holds, slotBit}
 

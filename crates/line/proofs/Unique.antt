@@ -1,7 +1,7 @@
 -- Each public contract has one answer: two results that meet it are the same. `Post` is the contract's own `ensures`, so a weaker contract would not
 -- pass here. Assumes nothing.
 use mathlib.Core.Path.{_≡_}
-use Rattle.bits.proofs.Common.{only}
+use Rattle.prelude.proofs.Common.{only}
 use Rattle.line.proofs.super_allowed.Reads as super-allowed
 use Rattle.line.proofs.mbas_allowed.Reads as mbas-allowed
 use Rattle.line.proofs.numbers_allowed.Reads as numbers-allowed

@@ -12,9 +12,9 @@ use lib.Dec.{lit<, eqb}
 use lib.ListN.{length, getD, set, length-set, List·getD-eq-default}
 use lib.Seq.{getD-set-same, getD-set-other}
 use Rattle.bits.specs.Bits.{Bytes}
-use Rattle.bits.specs.Loops.{upto}
-use Rattle.bits.proofs.Common.{by-bound}
-use Rattle.bits.proofs.Lists.{length-tabulate, getD-tabulate, getD-past, tabulate-ext, is-table}
+use Rattle.prelude.specs.Loops.{upto}
+use Rattle.prelude.proofs.Common.{by-bound}
+use Rattle.prelude.proofs.Lists.{length-tabulate, getD-tabulate, getD-past, tabulate-ext, is-table}
 use Rattle.sizes.specs.Sizes.{wordBytes, groupWords, captureLength, words, groupSize}
 use Rattle.sizes.proofs.Equations.{capture-words}
 use Rattle.line_order.specs.Order.{Order, byteBy, laidBy, symbolBy, wordBy}

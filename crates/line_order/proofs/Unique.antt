@@ -2,7 +2,7 @@
 -- `ensures`, so a weaker contract would not pass here. Assumes nothing.
 use mathlib.Core.Path.{_≡_}
 use denote.Ref.{now}
-use Rattle.bits.proofs.Common.{only}
+use Rattle.prelude.proofs.Common.{only}
 use Rattle.line_order.proofs.place.Reads as place
 use Rattle.line_order.proofs.word_in.Reads as word-in
 use Rattle.line_order.proofs.checks_in.Reads as checks-in

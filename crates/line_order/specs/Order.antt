@@ -3,7 +3,7 @@
 use Prim.Native.Nat.{ℕ, _+_, _*_, _/_, _%_}
 use mathlib.Core.List.{List}
 use lib.ListN.{getD}
-use Rattle.bits.specs.Bits.{tabulate}
+use Rattle.prelude.specs.Lists.{tabulate}
 use Rattle.sizes.specs.Sizes.{wordBytes, groupWords, captureLength, groupSize}
 
 -- ---- any order

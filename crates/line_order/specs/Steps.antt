@@ -5,8 +5,8 @@ use mathlib.Core.Path.{_≡_}
 use mathlib.Core.List.{List, []}
 use lib.Dec.{ltb, eqb}
 use lib.ListN.{getD, set}
-use Rattle.bits.specs.Bits.{tabulate}
-use Rattle.bits.specs.Loops.{upto}
+use Rattle.prelude.specs.Lists.{tabulate}
+use Rattle.prelude.specs.Loops.{upto}
 use Rattle.sizes.specs.Sizes.{wordBytes, groupWords, groupSize}
 use Rattle.line_order.specs.Order.{Order, laidBy, wordBy, lineOrder}
 
@@ -44,11 +44,11 @@ putWord cap w v = putBy lineOrder cap w v
 -- ---- eight words as a group: a capture that has only these
 
 -- word w of eight
-abbrev pub wordOf : List (List ℕ) → ℕ → List ℕ
-wordOf words w = getD words w []
+abbrev pub groupWord : List (List ℕ) → ℕ → List ℕ
+groupWord words w = getD words w []
 
 abbrev pub laidGroup : List (List ℕ) → List ℕ
-laidGroup words = laidBy lineOrder groupSize (wordOf words)
+laidGroup words = laidBy lineOrder groupSize (groupWord words)
 
 -- and back
 abbrev pub takenGroup : List ℕ → List (List ℕ)

@@ -4,7 +4,7 @@ ghost use mathlib.Core.Path.{_≡_};
 ghost use Prim.Native.Nat.{_/_, _^_, _<_, min};
 ghost use lib.ListN.{length, set};
 ghost use Rattle.sizes.specs.Sizes.{wordBytes, groupWords, groupSize};
-ghost use Rattle.lent.specs.Steps.{sumBy};
+ghost use Rattle.hamming_table.specs.Steps.{sumBy};
 ghost use Rattle.line_order.specs.Order.{symbolPlace, wordIn};
 ghost use Rattle.line_order.specs.Steps.{putWord, laidGroup, takenGroup};
 
@@ -93,14 +93,14 @@ fn checks_inside(t: &[u16; 4096], capture: &[u8], w: usize) -> u16
     sum
 }
 
-// The nine checks of word w of a capture, by the lent table of `lent::byte_table`: a word that passes need not be put together.
+// The nine checks of word w of a capture, by the lent table of `hamming_table::byte_table`: a word that passes need not be put together.
 pub fn checks_in(t: &[u16; 4096], capture: &[u8], w: usize) -> u16
     ensures { λ r. ⌜ r ≡ sumBy (now (t .entry)) (wordIn (now (capture .entry)) w) ⌝ }
 {
     if w / sizes::GROUP_WORDS < capture.len() / sizes::GROUP_BYTES {
         checks_inside(t, capture, w)
     } else {
-        lent::checks_by(t, word_in(capture, w))
+        hamming_table::checks_by(t, word_in(capture, w))
     }
 }
 

@@ -6,7 +6,8 @@ use mathlib.Core.Logic.{⊎-elim}
 use native.Mathlib.Nat.{add-zero, zero-add, add-suc, mod-lt, eq-or-lt-of-le}
 use native.Mathlib.Omega.{arith}
 use lib.ListN.{getD, replicate, getD-replicate}
-use Rattle.bits.specs.Bits.{tabulate, num, pack, Bits}
+use Rattle.prelude.specs.Lists.{tabulate}
+use Rattle.bits.specs.Bits.{num, pack, Bits}
 use Rattle.scrambler.specs.Scrambler.{push, hist, o}
 
 -- an older entry of a longer history

@@ -13,7 +13,7 @@ use Rattle.bits.proofs.Numbers.{num-ext}
 use Rattle.bits.proofs.Packing.{length-packs}
 use Rattle.bits.proofs.Xor.{num-xor}
 use Rattle.scrambler.specs.Scrambler.{o}
-use Rattle.scrambler.specs.Steps.{Rule, Opened, Begun}
+use Rattle.scrambler.specs.Steps.{Rule, Opened, SequenceBegun}
 use Rattle.scrambler.proofs.Rule.{o-lt, o-step}
 
 -- terms that come twice; and a sum of sums, each without its carry
@@ -30,31 +30,31 @@ cancel a b c d e f g h i j =
     ∙ even (a + b + c + d + (b + e + f + g) + (c + f + h + i) + (d + g + i + j)) (a + e + h + j) (b + c + d + f + g + i) (omega arith)
 
 -- the rule at n + k, the sum written as n's
-shifted : (m : ℕ) → Rule m → (a b c d e : ℕ) → a ≡ e + 16 * m → b ≡ e + 15 * m → c ≡ e + 13 * m → d ≡ e + 4 * m → o a ≡ (o b + o c + o d + o e) % 2
-shifted m r a b c d e p q s t = rw (p, q, s, t) (r e)
+rule-shifted : (m : ℕ) → Rule m → (a b c d e : ℕ) → a ≡ e + 16 * m → b ≡ e + 15 * m → c ≡ e + 13 * m → d ≡ e + 4 * m → o a ≡ (o b + o c + o d + o e) % 2
+rule-shifted m r a b c d e p q s t = rw (p, q, s, t) (r e)
 
-twice : (m : ℕ) → Rule m → Rule (2 * m)
-twice m r n =
-    let top = shifted m r (n + 16 * (2 * m)) (n + 31 * m) (n + 29 * m) (n + 20 * m) (n + 16 * m) (omega arith) (omega arith) (omega arith) (omega arith) in
-    let a = shifted m r (n + 31 * m) (n + 15 * (2 * m)) (n + 28 * m) (n + 19 * m) (n + 15 * m) (omega arith) (omega arith) (omega arith) (omega arith) in
-    let b = shifted m r (n + 29 * m) (n + 28 * m) (n + 13 * (2 * m)) (n + 17 * m) (n + 13 * m) (omega arith) (omega arith) (omega arith) (omega arith) in
-    let c = shifted m r (n + 20 * m) (n + 19 * m) (n + 17 * m) (n + 4 * (2 * m)) (n + 4 * m) (omega arith) (omega arith) (omega arith) (omega arith) in
+stride-twice : (m : ℕ) → Rule m → Rule (2 * m)
+stride-twice m r n =
+    let top = rule-shifted m r (n + 16 * (2 * m)) (n + 31 * m) (n + 29 * m) (n + 20 * m) (n + 16 * m) (omega arith) (omega arith) (omega arith) (omega arith) in
+    let a = rule-shifted m r (n + 31 * m) (n + 15 * (2 * m)) (n + 28 * m) (n + 19 * m) (n + 15 * m) (omega arith) (omega arith) (omega arith) (omega arith) in
+    let b = rule-shifted m r (n + 29 * m) (n + 28 * m) (n + 13 * (2 * m)) (n + 17 * m) (n + 13 * m) (omega arith) (omega arith) (omega arith) (omega arith) in
+    let c = rule-shifted m r (n + 20 * m) (n + 19 * m) (n + 17 * m) (n + 4 * (2 * m)) (n + 4 * m) (omega arith) (omega arith) (omega arith) (omega arith) in
     top ∙ (rw (a, b, c, r n)
     (cancel (o (n + 15 * (2 * m))) (o (n + 28 * m)) (o (n + 19 * m)) (o (n + 15 * m)) (o (n + 13 * (2 * m))) (o (n + 17 * m)) (o (n + 13 * m))
     (o (n + 4 * (2 * m))) (o (n + 4 * m)) (o n)))
 
 -- at strides of 1, 4, 16 and 64 bytes
 pub stride-1 : Rule 8
-stride-1 = twice 4 (twice 2 (twice 1 (λ n. o-step n)))
+stride-1 = stride-twice 4 (stride-twice 2 (stride-twice 1 (λ n. o-step n)))
 
 pub stride-4 : Rule 32
-stride-4 = twice 16 (twice 8 stride-1)
+stride-4 = stride-twice 16 (stride-twice 8 stride-1)
 
 pub stride-16 : Rule 128
-stride-16 = twice 64 (twice 32 stride-4)
+stride-16 = stride-twice 64 (stride-twice 32 stride-4)
 
 pub stride-64 : Rule 512
-stride-64 = twice 256 (twice 128 stride-16)
+stride-64 = stride-twice 256 (stride-twice 128 stride-16)
 
 -- byte k, from bit 0 of the sequence that begins there
 abbrev since : ℕ → ℕ → ℕ
@@ -86,7 +86,7 @@ byte-sum s k r h =
     ∙ num-xor 8 (added (added a b) c) d 0 (added-lt (added a b) c) (since-lt (k - 16 * s))
     ∙ num-ext 8 (added (added (added a b) c) d) o 0 (8 * k)
     (λ j l. four (a (0 + j)) (b (0 + j)) (c (0 + j)) (d (0 + j))
-    ∙ sym (shifted (8 * s) r (8 * k + j) (8 * (k - s) + (0 + j)) (8 * (k - 3 * s) + (0 + j)) (8 * (k - 12 * s) + (0 + j)) (8 * (k - 16 * s) + (0 + j))
+    ∙ sym (rule-shifted (8 * s) r (8 * k + j) (8 * (k - s) + (0 + j)) (8 * (k - 3 * s) + (0 + j)) (8 * (k - 12 * s) + (0 + j)) (8 * (k - 16 * s) + (0 + j))
     (omega arith) (omega arith) (omega arith) (omega arith))))
 
 -- the same out of a buffer that has all bytes before it
@@ -101,11 +101,11 @@ next-sum s k f r some far at =
 pub opened-all : {d out : List ℕ} (n : ℕ) → Opened n d out → n ≡ length d → out ≡ pack (length d) o
 opened-all {d} {out} n e p = rw (e .is, drop-of-length-le d (le-of-eq (sym p)), p) (append-nil (pack (length d) o))
 
-pub begun-all : {out : List ℕ} (n : ℕ) → Begun n out → length out ≡ n → out ≡ pack n o
-begun-all {out} n b e = b .is ∙ (rw (drop-of-length-le out (le-of-eq e)) (append-nil (pack n o)))
+pub sequence-begun-all : {out : List ℕ} (n : ℕ) → SequenceBegun n out → length out ≡ n → out ≡ pack n o
+sequence-begun-all {out} n b e = b .is ∙ (rw (drop-of-length-le out (le-of-eq e)) (append-nil (pack n o)))
 
 -- so far
-pub opened-begun : {m : ℕ} {d out : List ℕ} → Opened m d out → m ≤ length d → Begun m out
+pub opened-begun : {m : ℕ} {d out : List ℕ} → Opened m d out → m ≤ length d → SequenceBegun m out
 opened-begun {m} {d} {out} e h =
     let rest : drop m out ≡ drop m d = rw (e .is) (drop-at (pack m o) (drop m d) m (length-packs 8 m o)) in
     record { within = rw (e .long) h; is = e .is ∙ ap (λ (s : List ℕ). pack m o ++ s) (sym rest) }

@@ -2,7 +2,7 @@
 -- contract would not pass here. Assumes nothing.
 use mathlib.Core.Path.{_≡_}
 use denote.Ref.{now}
-use Rattle.bits.proofs.Common.{only}
+use Rattle.prelude.proofs.Common.{only}
 use Rattle.scrambler.proofs.fill.Reads as fill
 use Rattle.scrambler.proofs.sequence.Reads as sequence
 

@@ -27,7 +27,7 @@ pub record Opened (m : ℕ) (d out : List ℕ) : Type 0 where
   pub is : out ≡ pack m o ++ drop m d
 
 -- the first m bytes of out are those of the sequence
-pub record Begun (m : ℕ) (out : List ℕ) : Type 0 where
+pub record SequenceBegun (m : ℕ) (out : List ℕ) : Type 0 where
   pub within : m ≤ length out
   pub is : out ≡ pack m o ++ drop m out
 

@@ -5,7 +5,7 @@ ghost use lib.ListN.{length};
 ghost use Rattle.bits.specs.Bits.{pack};
 ghost use Rattle.scrambler.specs.Scrambler.{o};
 ghost use Rattle.sizes.specs.Sizes.{superBytes};
-ghost use Rattle.scrambler.specs.Steps.{Steps, Rule, Opened, Begun};
+ghost use Rattle.scrambler.specs.Steps.{Steps, Rule, Opened, SequenceBegun};
 
 // After so many bits the sequence repeats.
 pub const PERIOD: usize = 65535;
@@ -43,8 +43,8 @@ fn begin(out: &mut [u8], m: usize)
 
 // The bytes 16 s .. m - 1, each the sum of four before it: the rule, taken at a stride of s bytes.
 fn go_on(out: &mut [u8], s: usize, m: usize)
-    requires { ⌜ (1 ≤ s) × (Rule (8 * s)) × (16 * s ≤ m) × (m ≤ length (now out)) × (Begun (16 * s) (now out)) ⌝ }
-    ensures { λ _. ⌜ (Begun m (now (out .exit))) × (length (now (out .exit)) ≡ length (now (out .entry))) ⌝ }
+    requires { ⌜ (1 ≤ s) × (Rule (8 * s)) × (16 * s ≤ m) × (m ≤ length (now out)) × (SequenceBegun (16 * s) (now out)) ⌝ }
+    ensures { λ _. ⌜ (SequenceBegun m (now (out .exit))) × (length (now (out .exit)) ≡ length (now (out .entry))) ⌝ }
 {
     for k in 16 * s..m {
         out[k] = out[k - s] ^ out[k - 3 * s] ^ out[k - 12 * s] ^ out[k - 16 * s];

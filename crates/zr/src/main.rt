@@ -2,7 +2,7 @@
 mod captures;
 mod places;
 
-use shell::said;
+use zr_shell::said;
 
 // `Convert` is map, or unmap where it is so.
 enum Command {

@@ -1,8 +1,8 @@
 // The commands on GMP places.
 use answer::Answer;
-use arguments::Number;
-use shell::files;
-use shell::said;
+use zr_argument::Number;
+use zr_shell::files;
+use zr_shell::said;
 
 // zr map C F N GROUPS WINDOW
 // zr unmap C F N WINDOW GROUPS
@@ -37,7 +37,7 @@ fn convert_file(unmapping: bool, c: u64, f: u64, n: u64, from: &[u8]) {
 }
 
 fn map(c: u64, f: u64, n: u64, groups: &[u8], window: &mut [u8]) {
-    let answer = mapping::map(c, f, n, groups, window);
+    let answer = gmp_map::map(c, f, n, groups, window);
     if answer.number != 0 {
         refused(answer);
         said::length(
@@ -52,7 +52,7 @@ fn map(c: u64, f: u64, n: u64, groups: &[u8], window: &mut [u8]) {
 }
 
 fn unmap(c: u64, f: u64, n: u64, window: &[u8], groups: &mut [u8]) {
-    let answer = mapping::unmap(c, f, n, window, groups);
+    let answer = gmp_map::unmap(c, f, n, window, groups);
     if answer.number != 0 {
         refused(answer);
         said::length(answer, b"WINDOW", window.len(), buffer_sizes::window(n));
@@ -86,5 +86,5 @@ pub fn runs() {
         said::sets(answer, b"  C is 0 to 10220\n");
         return;
     }
-    run_lines::print(c);
+    gmp_print::print(c);
 }

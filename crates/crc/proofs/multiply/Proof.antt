@@ -2,9 +2,9 @@
 use Prim.Native.Nat.{_-_, _^_, _≤_}
 use native.Mathlib.Omega.{arith}
 use Rattle.bits.specs.Bits.{digit}
-use Rattle.bits.proofs.LoopLaws.{Folded, folded-more, loops}
+use Rattle.prelude.proofs.LoopLaws.{Folded, folded-more, loops}
 use Rattle.bits.proofs.Numbers.{digit-lt}
-use Rattle.bits.proofs.Common.{bit-times}
+use Rattle.prelude.proofs.Common.{bit-times}
 use Rattle.crc.specs.Crc.{width, poly}
 use Rattle.crc.specs.Steps.{productStep}
 use Rattle.crc.proofs.multiply.Statement.{statement}

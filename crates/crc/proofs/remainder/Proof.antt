@@ -1,7 +1,7 @@
 -- `remainder` meets its contract: the bytes are folded in. Assumes nothing.
 use Prim.Native.Nat.{_-_, _≤_}
 use lib.ListN.{length}
-use Rattle.bits.proofs.LoopLaws.{Folded, loops}
+use Rattle.prelude.proofs.LoopLaws.{Folded, loops}
 use Rattle.crc.specs.Crc.{width}
 use Rattle.crc.specs.Steps.{byteStep}
 use Rattle.crc.proofs.remainder.Statement.{statement}

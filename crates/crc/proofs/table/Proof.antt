@@ -1,7 +1,7 @@
 -- `table` meets its contract: entry b is what the byte b leaves. Assumes nothing.
 use Prim.Native.Nat.{_-_}
-use Rattle.bits.proofs.Lists.{Filled}
-use Rattle.bits.proofs.LoopLaws.{loops}
+use Rattle.prelude.proofs.Lists.{Filled}
+use Rattle.prelude.proofs.LoopLaws.{loops}
 use Rattle.crc.specs.Crc.{width, poly}
 use Rattle.crc.specs.Steps.{entryOf}
 use Rattle.crc.proofs.table.Statement.{statement}

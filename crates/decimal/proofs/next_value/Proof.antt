@@ -1,6 +1,6 @@
 -- `decimal::next_value` meets its contract: each return by the tests that led there. Assumes nothing.
 use borrow.Author.Tests.{le-ltb, le-leb}
-use Rattle.bits.proofs.LoopLaws.{tests}
+use Rattle.prelude.proofs.LoopLaws.{tests}
 use native.Mathlib.Omega.{arith}
 use Rattle.decimal.specs.Steps.{nextValue}
 use borrow.Author.Needs.{needs}

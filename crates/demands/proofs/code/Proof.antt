@@ -1,6 +1,6 @@
 -- `demands::code` meets its contract, demand 1 of coding. Assumes nothing.
 use denote.Ref.{now}
-use Rattle.coder.proofs.Judging.{code-demand-1}
+use Rattle.code.proofs.Judging.{code-demand-1}
 use borrow.Author.Needs.{needs}
 use Rattle.demands.proofs.code.Statement.{statement}
 use Rattle.demands.proofs.code.Tie as tie

@@ -1,6 +1,6 @@
 -- `demands::edit` meets its contract, demand 1 of editing. Assumes nothing.
 use denote.Ref.{now}
-use Rattle.editing.proofs.Answers.{edit-demand-1}
+use Rattle.edit_spec.proofs.Answers.{edit-demand-1}
 use borrow.Author.Needs.{needs}
 use Rattle.demands.proofs.edit.Statement.{statement}
 use Rattle.demands.proofs.edit.Tie as tie

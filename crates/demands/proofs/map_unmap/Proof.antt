@@ -1,6 +1,6 @@
 -- `demands::map_unmap` meets its contract: the round trip of windows. Assumes nothing.
-use Rattle.mapping.specs.Steps.{refused-first, went-on}
-use Rattle.mapping.proofs.RoundTrip.{round-trip}
+use Rattle.gmp_map.specs.Steps.{refused-first, went-on}
+use Rattle.gmp_map.proofs.RoundTrip.{round-trip}
 use borrow.Author.Needs.{needs}
 use Rattle.demands.proofs.map_unmap.Statement.{statement}
 use Rattle.demands.proofs.map_unmap.Tie as tie

@@ -1,6 +1,6 @@
 -- `demands::read` meets its contract, demand 1 of reading. Assumes nothing.
 use denote.Ref.{now}
-use Rattle.reading.proofs.Judging.{read-demand-1}
+use Rattle.read_spec.proofs.Judging.{read-demand-1}
 use borrow.Author.Needs.{needs}
 use Rattle.demands.proofs.read.Statement.{statement}
 use Rattle.demands.proofs.read.Tie as tie

@@ -1,7 +1,7 @@
 -- `gmp::data_last` meets its contract: the law `data-last`. Assumes nothing.
 use borrow.Author.Needs.{needs}
 use native.Mathlib.Omega.{arith}
-use Rattle.gmp.proofs.Residues.{product}
+use Rattle.gmp.proofs.Residues.{residue-product}
 use Rattle.gmp.proofs.Ends.{all-data, data-last, last-to}
 use Rattle.gmp.proofs.data_last.Statement.{statement}
 use Rattle.gmp.proofs.data_last.Tie as tie
@@ -10,7 +10,7 @@ returns : tie.Need-returns
 returns c = search all-data
 
 mul-result : tie.Need-mul-result
-mul-result c = omega (arith, product _ _ (c .before .pre .0))
+mul-result c = omega (arith, residue-product _ _ (c .before .pre .0))
 
 sub-result : tie.Need-sub-result
 sub-result c = search needs

@@ -2,12 +2,12 @@
 use mathlib.Core.Path.{refl}
 use native.Mathlib.Omega.{arith}
 use Rattle.gmp.specs.Places.{isData}
-use Rattle.gmp.proofs.Residues.{product}
+use Rattle.gmp.proofs.Residues.{residue-product}
 use Rattle.gmp.proofs.is_data.Statement.{statement}
 use Rattle.gmp.proofs.is_data.Tie as tie
 
 mul-result : tie.Need-mul-result
-mul-result c = omega (arith, product _ _ (c .pre))
+mul-result c = omega (arith, residue-product _ _ (c .pre))
 
 returns : tie.Need-returns
 unfolding isData

@@ -1,7 +1,7 @@
 -- `gmp::stuff_last` meets its contract: the law `stuff-last`. Assumes nothing.
 use borrow.Author.Needs.{needs}
 use native.Mathlib.Omega.{arith}
-use Rattle.gmp.proofs.Residues.{product}
+use Rattle.gmp.proofs.Residues.{residue-product}
 use Rattle.gmp.proofs.Ends.{all-stuff, stuff-last, last-to}
 use Rattle.gmp.proofs.stuff_last.Statement.{statement}
 use Rattle.gmp.proofs.stuff_last.Tie as tie
@@ -13,7 +13,7 @@ sub-result : tie.Need-sub-result
 sub-result c = search needs
 
 mul-result : tie.Need-mul-result
-mul-result c = omega (arith, product _ _ (c .before .pre .0))
+mul-result c = omega (arith, residue-product _ _ (c .before .pre .0))
 
 sub-result-2 : tie.Need-sub-result-2
 sub-result-2 c = search needs

@@ -6,15 +6,15 @@ use borrow.Author.Needs.{needs}
 use lib.ListN.{getD}
 use Rattle.bits.proofs.Numbers.{digit-lt}
 use Rattle.bits.specs.Bits.{digit}
-use Rattle.matrix.specs.Columns.{columnOf}
-use Rattle.matrix.specs.Sums.{taken}
+use Rattle.hamming_matrix.specs.Columns.{columnOf}
+use Rattle.hamming_matrix.specs.Sums.{columnTaken}
 use Rattle.hamming.specs.Steps.{byteSum}
-use Rattle.matrix.proofs.Sums.{Summed, summed-none, summed-more, summed-all}
+use Rattle.hamming_matrix.proofs.Sums.{Summed, summed-none, summed-more, summed-all}
 use Rattle.hamming.proofs.byte_sum.Statement.{statement}
 use Rattle.hamming.proofs.byte_sum.Tie as tie
 
 abbrev Inv-loop : tie.InvT-loop
-Inv-loop t k x sum₀ j₀ sum j = Summed (taken (8 * k) (digit 8 x)) 8 j sum
+Inv-loop t k x sum₀ j₀ sum j = Summed (columnTaken (8 * k) (digit 8 x)) 8 j sum
 
 abbrev μ-loop : tie.MeasureT-loop
 μ-loop t k x sum₀ j₀ sum j = 8 - j
@@ -48,7 +48,7 @@ loop-less : tie.Need-loop-less Inv-loop μ-loop
 loop-less c = search needs
 
 loop-again : tie.Need-loop-again Inv-loop μ-loop
-unfolding taken columnOf
+unfolding columnTaken columnOf
 loop-again c =
     let at-before = c .before .before .before in
     let l = at-before .before in

@@ -6,9 +6,9 @@ use borrow.Author.Needs.{needs}
 use Rattle.sizes.specs.Sizes.{checkValues}
 use Rattle.bits.proofs.Packing.{bitOf-lt}
 use Rattle.bits.specs.Bits.{bitAt}
-use Rattle.matrix.specs.Sums.{tailOf}
+use Rattle.hamming_matrix.specs.Sums.{tailOf}
 use Rattle.hamming.specs.Code.{checksOf, joinedWord}
-use Rattle.matrix.proofs.Matrix.{tail-lt}
+use Rattle.hamming_matrix.proofs.Matrix.{tail-lt}
 use Rattle.hamming.proofs.Words.{checks-lt}
 use Rattle.hamming.proofs.ByBytes.{word-closed}
 use Rattle.hamming.proofs.encode.Statement.{statement}

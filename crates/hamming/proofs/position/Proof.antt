@@ -2,7 +2,7 @@
 use mathlib.Core.Path.{refl}
 use borrow.Author.Needs.{needs}
 use Rattle.sizes.specs.Sizes.{checkValues}
-use Rattle.matrix.specs.Columns.{positionOf}
+use Rattle.hamming_matrix.specs.Columns.{positionOf}
 use Rattle.hamming.proofs.ByBytes.{entry-is}
 use Rattle.hamming.proofs.position.Statement.{statement}
 use Rattle.hamming.proofs.position.Tie as tie

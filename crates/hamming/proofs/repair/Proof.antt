@@ -1,7 +1,7 @@
 -- `hamming::repair` meets its contract: what the callees say, put together. Assumes nothing.
 use mathlib.Core.Path.{ap, ap₂, _∙_}
 use borrow.Author.Needs.{needs}
-use Rattle.matrix.specs.Columns.{positionOf}
+use Rattle.hamming_matrix.specs.Columns.{positionOf}
 use Rattle.hamming.specs.Repair.{repairAt, repairOf}
 use Rattle.hamming.proofs.Words.{checks-lt}
 use Rattle.hamming.proofs.repair.Statement.{statement}

@@ -2,7 +2,7 @@
 use mathlib.Core.Path.{refl}
 use borrow.Author.Needs.{needs}
 use Rattle.sizes.specs.Sizes.{checkValues}
-use Rattle.matrix.specs.Sums.{tailOf}
+use Rattle.hamming_matrix.specs.Sums.{tailOf}
 use Rattle.hamming.proofs.ByBytes.{entry-is}
 use Rattle.hamming.proofs.tail.Statement.{statement}
 use Rattle.hamming.proofs.tail.Tie as tie

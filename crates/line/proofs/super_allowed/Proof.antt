@@ -1,5 +1,5 @@
 -- `line::super_allowed` meets its contract. Assumes nothing.
-use Rattle.bits.proofs.LoopLaws.{tests}
+use Rattle.prelude.proofs.LoopLaws.{tests}
 use Rattle.line.specs.Captures.{superAllowed}
 use Rattle.line.proofs.super_allowed.Statement.{statement}
 use Rattle.line.proofs.super_allowed.Tie as tie

@@ -1,7 +1,7 @@
 -- `line_order::checks_in` meets its contract. Assumes nothing.
 use mathlib.Core.Path.{ap, _∙_}
 use denote.Ref.{now}
-use Rattle.lent.specs.Steps.{sumBy}
+use Rattle.hamming_table.specs.Steps.{sumBy}
 use borrow.Author.Needs.{needs}
 use Rattle.line_order.proofs.checks_in.Statement.{statement}
 use Rattle.line_order.proofs.checks_in.Tie as tie

@@ -6,8 +6,8 @@ use denote.Ref.{now}
 use lib.ListN.{getD}
 use borrow.Author.Needs.{needs}
 use Rattle.sizes.specs.Sizes.{groupWords, wordBytes, groupSize}
-use Rattle.lent.specs.Steps.{entryAt, sumBy}
-use Rattle.matrix.proofs.Sums.{Summed, summed-none, summed-more, summed-all}
+use Rattle.hamming_table.specs.Steps.{entryAt, sumBy}
+use Rattle.hamming_matrix.proofs.Sums.{Summed, summed-none, summed-more, summed-all}
 use Rattle.line_order.specs.Order.{symbolPlace, wordIn}
 use Rattle.line_order.proofs.OrderLaws.{word-symbol, place-group}
 use Rattle.line_order.proofs.checks_inside.Statement.{statement}

@@ -1,7 +1,7 @@
 -- `line_order::deinterleave` meets its contract: a word a turn. Assumes nothing.
 use Prim.Native.Nat.{_-_}
-use Rattle.bits.proofs.Lists.{Filled}
-use Rattle.bits.proofs.LoopLaws.{loops}
+use Rattle.prelude.proofs.Lists.{Filled}
+use Rattle.prelude.proofs.LoopLaws.{loops}
 use Rattle.line_order.specs.Order.{wordBy, lineOrder}
 use Rattle.line_order.proofs.deinterleave.Statement.{statement}
 use Rattle.line_order.proofs.deinterleave.Tie as tie

@@ -4,16 +4,16 @@ use mathlib.Core.Path.{_≡_, refl, _∙_}
 use native.Mathlib.Omega.{arith}
 use lib.ListN.{length}
 use borrow.Author.Needs.{needs}
-use Rattle.bits.proofs.LoopLaws.{Folded, folded-none, folded-more, folded-all}
+use Rattle.prelude.proofs.LoopLaws.{Folded, folded-none, folded-more, folded-all}
 use Rattle.line_order.specs.Order.{lineOrder}
-use Rattle.line_order.specs.Steps.{replaceBy, wordOf}
+use Rattle.line_order.specs.Steps.{replaceBy, groupWord}
 use Rattle.line_order.proofs.Groups.{group-put}
 use Rattle.line_order.proofs.interleave.Statement.{statement}
 use Rattle.line_order.proofs.interleave.Tie as tie
 
 abbrev Inv-loop : tie.InvT-loop
 Inv-loop words out₀ w₀ out w =
-    Folded (replaceBy lineOrder (λ x v. wordOf words x)) out₀ w out × (length out ≡ length out₀) × (w ≤ 8)
+    Folded (replaceBy lineOrder (λ x v. groupWord words x)) out₀ w out × (length out ≡ length out₀) × (w ≤ 8)
 
 abbrev μ-loop : tie.MeasureT-loop
 μ-loop words out₀ w₀ out w = 8 - w

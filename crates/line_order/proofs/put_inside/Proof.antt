@@ -3,7 +3,7 @@ use Prim.Native.Nat.{ℕ, _+_, _-_, _*_, _/_, _≤_}
 use mathlib.Core.Path.{_≡_, refl, ap}
 use native.Mathlib.Omega.{arith}
 use lib.ListN.{length, length-set, getD, set}
-use Rattle.bits.proofs.LoopLaws.{Folded, folded-none, folded-more, folded-all}
+use Rattle.prelude.proofs.LoopLaws.{Folded, folded-none, folded-more, folded-all}
 use Rattle.sizes.specs.Sizes.{groupWords, wordBytes, groupSize}
 use Rattle.line_order.specs.Order.{symbolPlace, lineOrder}
 use Rattle.line_order.proofs.OrderLaws.{place-group}

@@ -4,7 +4,7 @@ use mathlib.Core.Path.{_≡_, refl}
 use native.Mathlib.Omega.{arith}
 use lib.ListN.{length, length-set}
 use Rattle.sizes.specs.Sizes.{wordBytes}
-use Rattle.bits.proofs.LoopLaws.{Folded, folded-none, folded-more, folded-all}
+use Rattle.prelude.proofs.LoopLaws.{Folded, folded-none, folded-more, folded-all}
 use Rattle.line_order.specs.Order.{lineOrder}
 use Rattle.line_order.proofs.put_tested.Statement.{statement}
 use Rattle.line_order.specs.Steps.{putSymbolBy, putBy}

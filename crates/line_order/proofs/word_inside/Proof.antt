@@ -4,8 +4,8 @@ use mathlib.Core.Path.{_≡_, ap}
 use native.Mathlib.Omega.{arith}
 use denote.Ref.{now}
 use lib.ListN.{getD}
-use Rattle.bits.proofs.Lists.{Filled, filled-more}
-use Rattle.bits.proofs.LoopLaws.{loops}
+use Rattle.prelude.proofs.Lists.{Filled, filled-more}
+use Rattle.prelude.proofs.LoopLaws.{loops}
 use Rattle.sizes.specs.Sizes.{groupWords, wordBytes, groupSize}
 use Rattle.line_order.specs.Order.{symbolBy, wordBy, symbolPlace, lineOrder}
 use Rattle.line_order.proofs.OrderLaws.{place-group}

@@ -4,8 +4,8 @@ use mathlib.Core.Path.{ap, _∙_}
 use denote.Ref.{now}
 use lib.ListN.{getD}
 use Rattle.sizes.specs.Sizes.{wordBytes}
-use Rattle.bits.proofs.Lists.{Filled, filled-more}
-use Rattle.bits.proofs.LoopLaws.{loops}
+use Rattle.prelude.proofs.Lists.{Filled, filled-more}
+use Rattle.prelude.proofs.LoopLaws.{loops}
 use Rattle.line_order.specs.Order.{symbolBy, wordBy, symbolPlace, lineOrder}
 use Rattle.line_order.proofs.OrderLaws.{getD-below}
 use Rattle.line_order.proofs.word_tested.Statement.{statement}

@@ -3,8 +3,8 @@ use Prim.Native.Nat.{_-_, _*_, _^_, _≤_, _<_}
 use mathlib.Core.Path.{_≡_, sym}
 use native.Mathlib.Omega.{arith}
 use Rattle.bits.specs.Bits.{byteOf}
-use Rattle.bits.proofs.Lists.{Filled, filled-none, filled-more, filled-to}
-use Rattle.bits.proofs.LoopLaws.{loops}
+use Rattle.prelude.proofs.Lists.{Filled, filled-none, filled-more, filled-to}
+use Rattle.prelude.proofs.LoopLaws.{loops}
 use Rattle.scrambler.specs.Scrambler.{o}
 use Rattle.scrambler.specs.Steps.{register}
 use Rattle.scrambler.proofs.Stepping.{starts, upper-half, byte-on}

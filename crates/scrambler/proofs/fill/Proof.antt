@@ -1,7 +1,7 @@
 -- `fill` meets its contract: a short buffer comes from the register alone, a longer one goes on by sums. Assumes nothing.
 use mathlib.Core.Path.{refl, _∙_}
 use native.Mathlib.Omega.{arith}
-use Rattle.scrambler.proofs.Strides.{stride-1, stride-4, stride-16, stride-64, opened-all, opened-begun, begun-all}
+use Rattle.scrambler.proofs.Strides.{stride-1, stride-4, stride-16, stride-64, opened-all, opened-begun, sequence-begun-all}
 use borrow.Author.Needs.{needs}
 use Rattle.scrambler.proofs.fill.Statement.{statement}
 use Rattle.scrambler.proofs.fill.Tie as tie
@@ -54,7 +54,7 @@ returns-2 c =
     let h = i .before .before .before .before in
     let f = h .before .before .before .before in
     let b = f .before .before .before .before .begin2 .ensures in
-    begun-all _ (j .go-on4 .ensures .0) (j .go-on4 .ensures .1 ∙ i .go-on3 .ensures .1 ∙ h .go-on2 .ensures .1 ∙ f .go-on .ensures .1 ∙ b .long)
+    sequence-begun-all _ (j .go-on4 .ensures .0) (j .go-on4 .ensures .1 ∙ i .go-on3 .ensures .1 ∙ h .go-on2 .ensures .1 ∙ f .go-on .ensures .1 ∙ b .long)
 
 pub fill-spec : {M : Type 1} → statement M
 fill-spec =

@@ -4,8 +4,8 @@ use mathlib.Core.Path.{_≡_, refl}
 use native.Mathlib.Omega.{arith}
 use lib.ListN.{getD}
 use Rattle.bits.specs.Bits.{byteOf}
-use Rattle.bits.proofs.Lists.{Filled, filled-more, filled-at, filled-to}
-use Rattle.bits.proofs.LoopLaws.{loops}
+use Rattle.prelude.proofs.Lists.{Filled, filled-more, filled-at, filled-to}
+use Rattle.prelude.proofs.LoopLaws.{loops}
 use Rattle.scrambler.specs.Scrambler.{o}
 use Rattle.scrambler.proofs.Strides.{next-sum, opened-begun}
 use Rattle.scrambler.proofs.go_on.Statement.{statement}

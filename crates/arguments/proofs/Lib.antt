@@ -1,3 +1,0 @@
--- The laws of `arguments`.
-pub mod Digits
-pub mod Unique

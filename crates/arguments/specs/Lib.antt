@@ -1,2 +1,0 @@
--- What the contracts of `arguments` are stated in.
-pub mod Numbers

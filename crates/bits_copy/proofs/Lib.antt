@@ -1,0 +1,2 @@
+-- What `bits_copy` promises, once.
+pub mod Unique

@@ -1,2 +1,0 @@
--- What `copies` promises, once.
-pub mod Unique

@@ -1,2 +1,0 @@
--- The law of `damage`: its contract has one answer.
-pub mod Unique

@@ -1,2 +1,0 @@
--- What the contracts of `damage` are stated in.
-pub mod Turned

@@ -1,0 +1,2 @@
+-- What `edit` promises, once.
+pub mod Unique

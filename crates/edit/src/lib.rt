@@ -1,0 +1,493 @@
+// Editing a capture: one client block and the parity of its FEC block replaced in place, and the words listed that hold them.
+use answer::Answer;
+ghost use mathlib.Core.Path.{_≡_};
+ghost use mathlib.Core.Bool.{not};
+ghost use lib.Dec.{eqb};
+ghost use Prim.Native.Nat.{_+_, _*_, _%_, _≤_, _<_};
+ghost use lib.ListN.{length};
+ghost use Rattle.bits.specs.Bits.{bitAt, byteOf, pack};
+ghost use Rattle.prelude.specs.Loops.{first};
+ghost use Rattle.answer.specs.Outcomes.{Outcome};
+ghost use Rattle.answer.specs.Rows.{answerOf};
+ghost use Rattle.hamming.specs.Code.{checksOf};
+ghost use Rattle.hamming_table.specs.Steps.{byteTable};
+ghost use Rattle.sizes.specs.Sizes.{blockBits, fecBits, fecBlocks, elementBits, superElements, fecElements, infoElements, captureLength, words, blocksOf};
+ghost use Rattle.sizes.specs.Sizes.{listLength, mostFrames, wordBits, wordBytes};
+ghost use Rattle.line.specs.Slots.{elementIn};
+ghost use Rattle.line_order.specs.Order.{wordIn};
+ghost use Rattle.line.specs.Words.{fecIn};
+ghost use Rattle.edit_spec.specs.Edit.{fecOf, blockFrom, change, crcChange, elementLocal, touches, listed, fails, clientSpareSet, editEarlyRows, editAnswer};
+ghost use Rattle.edit_spec.specs.Edit.{editLeaves};
+ghost use Rattle.edit_spec.specs.Steps.{AcceptedEdit, onePeriod, firstElement, stretchFrom, stretchTo, newInfoBit, newBit, newElement, parityElement, remade};
+ghost use Rattle.edit_spec.specs.Steps.{Lent, Passing, WordPassed};
+
+// One period of the scrambler's sequence, and a word's bits more, so that a word can be cut out anywhere.
+const PERIOD_BYTES: usize = 8208;
+
+// The last bit of a client block.
+const BLOCK_LAST: usize = sizes::BLOCK_BITS - 1;
+
+// The bits of information behind an FEC block's first client block.
+const BEHIND_FIRST: usize = sizes::INFO_BITS - sizes::BLOCK_BITS;
+
+// From the first element of an FEC block on, so many words can hold one of its elements.
+const STRETCH: usize = sizes::FEC_ELEMENTS + sizes::LONGEST_WAIT;
+
+// Replaces client block `block` of a capture of n super frames by the 257 bits of `bits` and its FEC block's parity by `parity`, changes the
+// CRC by what the changed bits leave, and lists the words that hold any of these. The count is how many were listed.
+pub fn edit(
+    n: u64,
+    block: u64,
+    bits: &[u8],
+    parity: &[u8],
+    capture: &mut [u8],
+    list: &mut [u64],
+) -> Answer
+    ensures { λ r. ⌜ Outcome (editAnswer n block (now (bits .entry)) (now (parity .entry)) (now (capture .entry)) (now (list .entry)))
+        (editLeaves n block (now (bits .entry)) (now (parity .entry)) (now (capture .entry)) (now (list .entry))) r (now (capture .exit), now (list .exit)) ⌝ }
+{
+    let r = judge(
+        n,
+        block,
+        bits.len() as u64,
+        parity.len() as u64,
+        capture.len() as u64,
+        list.len() as u64,
+        spare_set(bits),
+    );
+    if r.number != 0 {
+        return r;
+    }
+    edit_checked(n as usize, block as usize, bits, parity, capture, list)
+}
+
+// Numbers 1 to 3, from the numbers, the buffers' lengths and whether a spare bit is set.
+fn judge(n: u64, block: u64, bits: u64, parity: u64, capture: u64, list: u64, spare: bool) -> Answer
+    ensures { λ r. ⌜ r ≡ answerOf (editEarlyRows n block bits parity capture list spare) 0 ⌝ }
+{
+    if !line::one_of(n, sizes::SUPER_CLIENT_BLOCKS as u32, block) {
+        return answer::refuse(answer::OUTSIDE_SET, 0);
+    }
+    let capture_bytes = sizes::SUPER_CAPTURE_BYTES as u64 * n + sizes::FILLER_BYTES as u64;
+    let done = answer::granted(0);
+    let a = answer::refuse_if(spare, answer::SPARE_BIT, answer::buffer_place(1), done);
+    let b = answer::refuse_length(4, list, sizes::LIST_LENGTH as u64, a);
+    let c = answer::refuse_length(3, capture, capture_bytes, b);
+    let d = answer::refuse_length(2, parity, sizes::PARITY_BYTES as u64, c);
+    answer::refuse_length(1, bits, sizes::BLOCK_BYTES as u64, d)
+}
+
+// Whether one of the seven spare bits behind the 257 is set.
+fn spare_set(bits: &[u8]) -> bool
+    ensures { λ r. ⌜ r ≡ clientSpareSet (now (bits .entry)) ⌝ }
+{
+    bits::byte_at(bits, 32) % 128 != 0
+}
+
+// ---- which words are listed
+
+// Whether local element m of an FEC block holds a bit of client block b, of the CRC or of the parity. From element 2056 on each does.
+fn holds_touched(b: usize, m: usize) -> bool
+    requires { ⌜ m < fecElements ⌝ }
+    ensures { λ r. ⌜ r ≡ touches b (elementBits * m) elementBits ⌝ }
+{
+    let from = sizes::BLOCK_BITS * (b % sizes::CLIENT_BLOCKS);
+    sizes::INFO_ELEMENTS <= m
+        || (from / sizes::ELEMENT_BITS <= m && m <= (from + BLOCK_LAST) / sizes::ELEMENT_BITS)
+}
+
+// The first element of client block b's FEC block.
+fn first_element(b: usize) -> usize
+    requires { ⌜ b < blocksOf mostFrames ⌝ }
+    ensures { λ r. ⌜ r ≡ firstElement b ⌝ }
+{
+    sizes::SUPER_ELEMENTS * (b / sizes::CLIENT_BLOCKS / sizes::FEC_BLOCKS)
+        + sizes::FEC_ELEMENTS * (b / sizes::CLIENT_BLOCKS % sizes::FEC_BLOCKS)
+}
+
+// Whether word w of n super frames is listed. Most words hold nothing that is touched, so that is asked before whether they are filler.
+fn is_listed(n: usize, b: usize, w: usize) -> bool
+    requires { ⌜ (b < blocksOf n) × (n ≤ mostFrames) × (w < words n) ⌝ }
+    ensures { λ r. ⌜ r ≡ listed n b w ⌝ }
+{
+    let e = line::element_in(w);
+    let first = first_element(b);
+    if e < first {
+        return false;
+    }
+    if first + sizes::FEC_ELEMENTS <= e {
+        return false;
+    }
+    if !holds_touched(b, e - first) {
+        return false;
+    }
+    line::holds_element(n, w)
+}
+
+// No word before this one is listed: an element does not leave before its own number.
+fn stretch_from(b: usize) -> usize
+    requires { ⌜ b < blocksOf mostFrames ⌝ }
+    ensures { λ r. ⌜ r ≡ stretchFrom b ⌝ }
+{
+    first_element(b) + sizes::BLOCK_BITS * (b % sizes::CLIENT_BLOCKS) / sizes::ELEMENT_BITS
+}
+
+// Nor one from here on: none waits longer than 480 words.
+fn stretch_to(b: usize) -> usize
+    requires { ⌜ b < blocksOf mostFrames ⌝ }
+    ensures { λ r. ⌜ r ≡ stretchTo b ⌝ }
+{
+    first_element(b) + STRETCH
+}
+
+// ---- number 9
+
+// Whether word w has checks that are not zero.
+fn fails_check(t: &[u16; 4096], capture: &[u8], w: usize) -> bool
+    requires { ⌜ now t ≡ byteTable ⌝ }
+    ensures { λ r. ⌜ r ≡ not (eqb (checksOf (wordIn (now (capture .entry)) w)) 0) ⌝ }
+{
+    line_order::checks_in(t, capture, w) != 0
+}
+
+// Whether word w is to be listed and fails a check.
+fn is_refused(n: usize, b: usize, capture: &[u8], t: &[u16; 4096], w: usize) -> bool
+    requires { ⌜ (now t ≡ byteTable) × (b < blocksOf n) × (n ≤ mostFrames) × (w < words n) ⌝ }
+    ensures { λ r. ⌜ r ≡ fails n b (now (capture .entry)) w ⌝ }
+{
+    if !is_listed(n, b, w) {
+        return false;
+    }
+    fails_check(t, capture, w)
+}
+
+// The first such word, or the number of words.
+fn first_refused(n: usize, b: usize, capture: &[u8], t: &[u16; 4096]) -> usize
+    requires { ⌜ (n ≤ mostFrames) × (b < blocksOf n) × (now t ≡ byteTable) ⌝ }
+    ensures { λ r. ⌜ r ≡ first (fails n b (now (capture .entry))) (words n) ⌝ }
+{
+    for w in stretch_from(b)..stretch_to(b) {
+        if is_refused(n, b, capture, t, w) {
+            return w;
+        }
+    }
+    sizes::SUPER_ELEMENTS * n + sizes::LONGEST_WAIT
+}
+
+// ---- the change of the CRC
+
+// The sum of two bits without the carry.
+fn add(x: u8, y: u8) -> u8
+    ensures { λ r. ⌜ r ≡ (x + y) % 2 ⌝ }
+{
+    (x % 2 + y % 2) % 2
+}
+
+// Bit j of word w of a capture.
+fn word_bit(capture: &[u8], w: usize, j: usize) -> u8
+    requires { ⌜ (w < words mostFrames) × (j < wordBits) ⌝ }
+    ensures { λ r. ⌜ r ≡ bitAt (wordIn (now (capture .entry)) w) j ⌝ }
+{
+    bits::bit_at(
+        capture,
+        8 * line_order::place(w as u32, (j / 8) as u32) + j % 8,
+    )
+}
+
+// Bit i of FEC block t of a capture, descrambled.
+fn received_bit(capture: &[u8], scr: &[u8; PERIOD_BYTES], t: usize, i: usize) -> u8
+    requires { ⌜ (now scr ≡ onePeriod) × (t < fecBlocks * 8) × (i < fecBits) ⌝ }
+    ensures { λ r. ⌜ r ≡ fecIn (wordIn (now (capture .entry))) t i ⌝ }
+{
+    let k = sizes::FEC_BITS * (t % sizes::FEC_BLOCKS) + i;
+    let w = line::slot(
+        (sizes::SUPER_ELEMENTS * (t / sizes::FEC_BLOCKS) + k / sizes::ELEMENT_BITS) as u32,
+    );
+    add(
+        word_bit(capture, w, k % sizes::ELEMENT_BITS),
+        bits::bit_at(scr, k % scrambler::PERIOD),
+    )
+}
+
+// Bit j of client block b's change: what was received, and what replaces it.
+fn changed_bit(b: usize, bits: &[u8], capture: &[u8], scr: &[u8; PERIOD_BYTES], j: usize) -> u8
+    requires { ⌜ (now scr ≡ onePeriod) × (b < blocksOf mostFrames) × (j < blockBits) ⌝ }
+    ensures { λ r. ⌜ r ≡ change b (now (bits .entry)) (fecIn (wordIn (now (capture .entry))) (fecOf b)) (blockFrom b + j) ⌝ }
+{
+    add(
+        received_bit(
+            capture,
+            scr,
+            b / sizes::CLIENT_BLOCKS,
+            sizes::BLOCK_BITS * (b % sizes::CLIENT_BLOCKS) + j,
+        ),
+        bits::bit_at(bits, j),
+    )
+}
+
+// What the changed bits leave: the change of the CRC. Before the block nothing changes, and what follows it only shifts.
+fn crc_change(b: usize, bits: &[u8], capture: &[u8], scr: &[u8; PERIOD_BYTES]) -> u32
+    requires { ⌜ (now scr ≡ onePeriod) × (b < blocksOf mostFrames) ⌝ }
+    ensures { λ r. ⌜ r ≡ crcChange b (now (bits .entry)) (fecIn (wordIn (now (capture .entry))) (fecOf b)) ⌝ }
+{
+    let mut r: u32 = 0;
+    for j in 0..sizes::BLOCK_BITS {
+        r = crc::take(r, changed_bit(b, bits, capture, scr, j));
+    }
+    crc::shifted(
+        r,
+        (BEHIND_FIRST - sizes::BLOCK_BITS * (b % sizes::CLIENT_BLOCKS)) as u64,
+    )
+}
+
+// ---- a word made anew
+
+// The new bit at place p of the information and place k of the super frame, where `kept` was received.
+fn new_info_bit(b: usize, bits: &[u8], scr: &[u8; PERIOD_BYTES], p: usize, k: usize, kept: u8) -> u8
+    requires { ⌜ now scr ≡ onePeriod ⌝ }
+    ensures { λ r. ⌜ r ≡ newInfoBit b (now (bits .entry)) p k kept ⌝ }
+{
+    let from = sizes::BLOCK_BITS * (b % sizes::CLIENT_BLOCKS);
+    if p < from {
+        return kept;
+    }
+    if from + sizes::BLOCK_BITS <= p {
+        return kept;
+    }
+    add(
+        bits::bit_at(bits, p - from),
+        bits::bit_at(scr, k % scrambler::PERIOD),
+    )
+}
+
+// The same anywhere in the FEC block: the MBAS stays, and the parity is replaced.
+fn new_bit(
+    b: usize,
+    bits: &[u8],
+    parity: &[u8],
+    scr: &[u8; PERIOD_BYTES],
+    crc: u32,
+    p: usize,
+    k: usize,
+    x: u8,
+) -> u8
+    requires { ⌜ now scr ≡ onePeriod ⌝ }
+    ensures { λ r. ⌜ r ≡ newBit b (now (bits .entry)) (now (parity .entry)) crc p k x ⌝ }
+{
+    if p < sizes::INFO_BITS {
+        return new_info_bit(b, bits, scr, p, k, x);
+    }
+    if p < sizes::MBAS_FROM {
+        return add(x, ((crc >> (31 - (p - sizes::INFO_BITS))) % 2) as u8);
+    }
+    if p < sizes::PARITY_FROM {
+        return x;
+    }
+    add(
+        bits::bit_at(parity, p - sizes::PARITY_FROM),
+        bits::bit_at(scr, k % scrambler::PERIOD),
+    )
+}
+
+// Bit i of element e made anew, where old was received.
+fn new_element_bit(
+    b: usize,
+    bits: &[u8],
+    parity: &[u8],
+    scr: &[u8; PERIOD_BYTES],
+    crc: u32,
+    e: usize,
+    old: &[u8],
+    i: usize,
+) -> u8
+    requires { ⌜ (now scr ≡ onePeriod) × (e % superElements < fecElements * fecBlocks) × (i < wordBits) ⌝ }
+    ensures { λ r. ⌜ r ≡ newElement b (now (bits .entry)) (now (parity .entry)) crc e (now (old .entry)) i ⌝ }
+{
+    let l = e % sizes::SUPER_ELEMENTS;
+    new_bit(
+        b,
+        bits,
+        parity,
+        scr,
+        crc,
+        sizes::ELEMENT_BITS * (l % sizes::FEC_ELEMENTS) + i,
+        sizes::ELEMENT_BITS * l + i,
+        bits::bit_at(old, i),
+    )
+}
+
+// Byte j of it.
+fn new_byte(
+    b: usize,
+    bits: &[u8],
+    parity: &[u8],
+    scr: &[u8; PERIOD_BYTES],
+    crc: u32,
+    e: usize,
+    old: &[u8],
+    j: usize,
+) -> u8
+    requires { ⌜ (now scr ≡ onePeriod) × (e % superElements < fecElements * fecBlocks) × (j < wordBytes) ⌝ }
+    ensures { λ r. ⌜ r ≡ byteOf (newElement b (now (bits .entry)) (now (parity .entry)) crc e (now (old .entry))) j ⌝ }
+{
+    let mut acc: u32 = 0;
+    for a in 0..8usize {
+        acc = acc * 2 + bits::wide(new_element_bit(b, bits, parity, scr, crc, e, old, 8 * j + a));
+    }
+    acc as u8
+}
+
+// The element, bit by bit: for the few elements that are not all parity.
+fn new_element(
+    b: usize,
+    bits: &[u8],
+    parity: &[u8],
+    scr: &[u8; PERIOD_BYTES],
+    crc: u32,
+    e: usize,
+    old: &[u8],
+) -> [u8; 16]
+    requires { ⌜ (now scr ≡ onePeriod) × (e % superElements < fecElements * fecBlocks) ⌝ }
+    ensures { λ r. ⌜ r ≡ pack wordBytes (newElement b (now (bits .entry)) (now (parity .entry)) crc e (now (old .entry))) ⌝ }
+{
+    let mut r = [0u8; 16];
+    for j in 0..sizes::WORD_BYTES {
+        r[j] = new_byte(b, bits, parity, scr, crc, e, old, j);
+    }
+    r
+}
+
+// An element that is all parity, in one piece.
+fn parity_element(parity: &[u8], scr: &[u8; PERIOD_BYTES], e: usize) -> [u8; 16]
+    requires { ⌜ (now scr ≡ onePeriod) × (e % superElements < fecElements * fecBlocks) × (infoElements < elementLocal e) ⌝ }
+    ensures { λ r. ⌜ r ≡ pack wordBytes (parityElement (now (parity .entry)) e) ⌝ }
+{
+    let l = e % sizes::SUPER_ELEMENTS;
+    let at = sizes::ELEMENT_BITS * (l % sizes::FEC_ELEMENTS) - sizes::PARITY_FROM;
+    bits_copy::sum(
+        bits_copy::word_from(parity, at),
+        bits_copy::word_from(scr, sizes::ELEMENT_BITS * l % scrambler::PERIOD),
+    )
+}
+
+// Word w made anew, where old was received.
+fn new_word(
+    b: usize,
+    bits: &[u8],
+    parity: &[u8],
+    scr: &[u8; PERIOD_BYTES],
+    t: &[u16; 4096],
+    tails: &[u16; 512],
+    crc: u32,
+    w: usize,
+    old: [u8; 16],
+) -> [u8; 16]
+    requires { ⌜ (Lent (now scr) (now t) (now tails)) × (elementIn w % superElements < fecElements * fecBlocks) ⌝ }
+    ensures { λ r. ⌜ r ≡ remade b (now (bits .entry)) (now (parity .entry)) crc w old ⌝ }
+{
+    let e = line::element_in(w);
+    if sizes::INFO_ELEMENTS < e % sizes::SUPER_ELEMENTS % sizes::FEC_ELEMENTS {
+        return hamming_table::encode_by(t, tails, parity_element(parity, scr, e));
+    }
+    hamming_table::encode_by(t, tails, new_element(b, bits, parity, scr, crc, e, &old))
+}
+
+// ---- the pass
+
+// Word w, if it is listed, is made anew and becomes entry c of the list. Returns how many are listed now.
+fn pass_word(
+    n: usize,
+    b: usize,
+    bits: &[u8],
+    parity: &[u8],
+    scr: &[u8; PERIOD_BYTES],
+    t: &[u16; 4096],
+    tails: &[u16; 512],
+    crc: u32,
+    w: usize,
+    c: usize,
+    capture: &mut [u8],
+    list: &mut [u64],
+) -> usize
+    requires { ⌜ (Lent (now scr) (now t) (now tails)) × (n ≤ mostFrames) × (w < words n) × (length (now capture) ≡ captureLength n) × (c < length (now list))
+        × (b < blocksOf n) ⌝ }
+    ensures { λ r. ⌜ WordPassed n b (now (bits .entry)) (now (parity .entry)) crc w c (now (capture .entry)) (now (list .entry)) (now (capture .exit))
+        (now (list .exit)) r ⌝ }
+{
+    if is_listed(n, b, w) {
+        let old = line_order::word_in(capture, w);
+        let v = new_word(b, bits, parity, scr, t, tails, crc, w, old);
+        line_order::put_word(capture, w, v);
+        list[c] = w as u64;
+        return c + 1;
+    }
+    c
+}
+
+// The words that can be listed, in their order.
+fn rewrite(
+    n: usize,
+    b: usize,
+    bits: &[u8],
+    parity: &[u8],
+    scr: &[u8; PERIOD_BYTES],
+    t: &[u16; 4096],
+    tails: &[u16; 512],
+    crc: u32,
+    capture: &mut [u8],
+    list: &mut [u64],
+) -> usize
+    requires { ⌜ (Lent (now scr) (now t) (now tails)) × (n ≤ mostFrames) × (b < blocksOf n)
+        × (crc ≡ crcChange b (now bits) (fecIn (wordIn (now capture)) (fecOf b)))
+        × (length (now capture) ≡ captureLength n) × (length (now list) ≡ listLength) ⌝ }
+    ensures { λ r. ⌜ Passing n b (now (bits .entry)) (now (parity .entry)) (now (capture .entry)) (now (list .entry)) (words n) (now (capture .exit))
+        (now (list .exit)) r ⌝ }
+{
+    let mut c: usize = 0;
+    for w in stretch_from(b)..stretch_to(b) {
+        c = pass_word(n, b, bits, parity, scr, t, tails, crc, w, c, capture, list);
+    }
+    c
+}
+
+// What is made once, and then the pass. The change of the CRC is taken before the first word is written.
+fn replace(
+    n: usize,
+    b: usize,
+    bits: &[u8],
+    parity: &[u8],
+    t: &[u16; 4096],
+    capture: &mut [u8],
+    list: &mut [u64],
+) -> usize
+    requires { ⌜ (now t ≡ byteTable) × AcceptedEdit n b (now bits) (now parity) (now capture) (now list) ⌝ }
+    ensures { λ r. ⌜ Passing n b (now (bits .entry)) (now (parity .entry)) (now (capture .entry)) (now (list .entry)) (words n) (now (capture .exit))
+        (now (list .exit)) r ⌝ }
+{
+    let mut scr = [0u8; PERIOD_BYTES];
+    scrambler::fill(&mut scr);
+    let tails = hamming_matrix::tail_table();
+    let crc = crc_change(b, bits, capture, &scr);
+    rewrite(n, b, bits, parity, &scr, t, &tails, crc, capture, list)
+}
+
+// The edit of a call that none of the numbers 1 to 3 refuses.
+fn edit_checked(
+    n: usize,
+    b: usize,
+    bits: &[u8],
+    parity: &[u8],
+    capture: &mut [u8],
+    list: &mut [u64],
+) -> Answer
+    requires { ⌜ AcceptedEdit n b (now bits) (now parity) (now capture) (now list) ⌝ }
+    ensures { λ r. ⌜ Outcome (editAnswer n b (now (bits .entry)) (now (parity .entry)) (now (capture .entry)) (now (list .entry)))
+        (editLeaves n b (now (bits .entry)) (now (parity .entry)) (now (capture .entry)) (now (list .entry))) r (now (capture .exit), now (list .exit)) ⌝ }
+{
+    let t = hamming_table::byte_table();
+    let w = first_refused(n, b, capture, &t);
+    if w < sizes::SUPER_ELEMENTS * n + sizes::LONGEST_WAIT {
+        return answer::refuse(answer::LISTED_FAILS, w as u64);
+    }
+    answer::granted(replace(n, b, bits, parity, &t, capture, list) as u64)
+}

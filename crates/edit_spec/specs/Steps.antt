@@ -1,0 +1,102 @@
+-- The steps of an edit as the code takes them: a word made anew from its received bytes, and how far a pass has come. Assumes nothing: these are definitions.
+use Prim.Native.Nat.{ℕ, _+_, _-_, _*_, _/_, _%_, _≤_, _<_}
+use mathlib.Core.Bool.{false, cond}
+use mathlib.Core.Path.{_≡_}
+use mathlib.Core.List.{List, _++_}
+use lib.ListN.{length, set, drop}
+use Rattle.bits.specs.Bits.{digit, bitAt, pack}
+use Rattle.prelude.specs.Loops.{count}
+use Rattle.scrambler.specs.Scrambler.{o}
+use Rattle.hamming.specs.Code.{coded}
+use Rattle.hamming_matrix.specs.Steps.{tailTable}
+use Rattle.line_order.specs.Steps.{doneTo, putWord}
+use Rattle.hamming_table.specs.Steps.{byteTable}
+use Rattle.sizes.specs.Sizes.{crcBits, parityFrom, parityBytes, fecBlocks, elementBits, superElements, fecElements, captureLength, longestWait, blocksOf}
+use Rattle.sizes.specs.Sizes.{blockBytes, listLength, mostFrames}
+use Rattle.line.specs.Fec.{fields}
+use Rattle.line.specs.Slots.{elementIn}
+use Rattle.line_order.specs.Order.{laid, wordIn}
+use Rattle.edit_spec.specs.Edit.{fecOf, inBlock, blockFrom, elementLocal, listed, picked, editedWord, clientSpareSet}
+
+-- ---- what a call has shown that none of the numbers 1 to 3 refuses
+pub record AcceptedEdit (N b : ℕ) (bits parity cap list : List ℕ) : Type 0 where
+  pub some : 1 ≤ N
+  pub few : N ≤ mostFrames
+  pub block : b < blocksOf N
+  pub bits-long : length bits ≡ blockBytes
+  pub parity-long : length parity ≡ parityBytes
+  pub capture-long : length cap ≡ captureLength N
+  pub list-long : length list ≡ listLength
+  pub no-spare : clientSpareSet bits ≡ false
+
+-- ---- where the listed words are
+
+-- the first element of client block b's FEC block
+abbrev pub firstElement : ℕ → ℕ
+firstElement b = superElements * (fecOf b / fecBlocks) + fecElements * (fecOf b % fecBlocks)
+
+-- the words that can be listed: from the first element of the client block on, to 480 past the last element of its FEC block
+abbrev pub stretchFrom : ℕ → ℕ
+stretchFrom b = firstElement b + blockFrom b / elementBits
+
+abbrev pub stretchTo : ℕ → ℕ
+stretchTo b = firstElement b + (fecElements + longestWait)
+
+-- ---- a word made anew
+
+-- the bit at place p of the edited FEC block and place k of the super frame, scrambled, where x was received there and crc is the change
+-- of the CRC: new bits are scrambled anew, and what stays is as it was received
+unfoldable pub newInfoBit : ℕ → List ℕ → ℕ → ℕ → ℕ → ℕ
+newInfoBit b bits p k x = cond (inBlock b p) ((bitAt bits (p - blockFrom b) + o k) % 2) x
+
+unfoldable pub newBit : ℕ → List ℕ → List ℕ → ℕ → ℕ → ℕ → ℕ → ℕ
+newBit b bits parity crc p k x =
+    fields (λ j. newInfoBit b bits j k x) (λ j. (x + digit crcBits crc j) % 2) (λ j. x) (λ j. (bitAt parity j + o k) % 2) p
+
+-- bit i of element e, of the received word old
+unfoldable pub newElement : ℕ → List ℕ → List ℕ → ℕ → ℕ → List ℕ → ℕ → ℕ
+newElement b bits parity crc e old i =
+    newBit b bits parity crc (elementBits * elementLocal e + i) (elementBits * (e % superElements) + i) (bitAt old i)
+
+-- bit i of element e where the element is all parity
+unfoldable pub parityElement : List ℕ → ℕ → ℕ → ℕ
+parityElement parity e i = (bitAt parity (elementBits * elementLocal e - parityFrom + i) + o (elementBits * (e % superElements) + i)) % 2
+
+-- word w, check bits and all
+unfoldable pub remade : ℕ → List ℕ → List ℕ → ℕ → ℕ → List ℕ → List ℕ
+remade b bits parity crc w old = coded (newElement b bits parity crc (elementIn w) old)
+
+-- ---- what is made once and lent: one period of the scrambler's sequence, and a word's bits more; and the code's two tables
+
+abbrev pub periodBytes : ℕ
+periodBytes = 8208
+
+abbrev pub onePeriod : List ℕ
+onePeriod = pack periodBytes o
+
+pub record Lent (scr t tails : List ℕ) : Type 0 where
+  pub sequence : scr ≡ onePeriod
+  pub checks : t ≡ byteTable
+  pub closing : tails ≡ tailTable
+
+-- ---- the pass over the words: those below w are done
+
+-- the words of the capture so far
+abbrev pub mixed : ℕ → ℕ → List ℕ → List ℕ → List ℕ → ℕ → ℕ → List ℕ
+mixed N b bits parity cap w = doneTo w (editedWord N b bits parity cap) (wordIn cap)
+
+-- the list so far: the words listed, and the entries that are not written yet
+unfoldable pub listing : ℕ → ℕ → List ℕ → ℕ → List ℕ
+listing N b list w = picked (listed N b) w ++ drop (count (listed N b) w) list
+
+-- capture, list and count after the words below w, from the capture cap₀ and the list list₀
+pub record Passing (N b : ℕ) (bits parity cap₀ list₀ : List ℕ) (w : ℕ) (cap list : List ℕ) (c : ℕ) : Type 0 where
+  pub capture : cap ≡ laid N (mixed N b bits parity cap₀ w)
+  pub entries : list ≡ listing N b list₀ w
+  pub counted : c ≡ count (listed N b) w
+
+-- a word of the pass: a listed word is made anew and listed; at any other nothing is done
+pub record WordPassed (N b : ℕ) (bits parity : List ℕ) (crc w c : ℕ) (cap list cap′ list′ : List ℕ) (c′ : ℕ) : Type 0 where
+  pub capture : cap′ ≡ cond (listed N b w) (putWord cap w (remade b bits parity crc w (wordIn cap w))) cap
+  pub entries : list′ ≡ cond (listed N b w) (set list c w) list
+  pub counted : c′ ≡ cond (listed N b w) (c + 1) c

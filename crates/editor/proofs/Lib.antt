@@ -1,2 +1,0 @@
--- What `editor` promises, once.
-pub mod Unique

@@ -1,0 +1,22 @@
+-- `hamming_table::entry_at` meets its contract: past the end there is the default. Assumes nothing.
+use mathlib.Core.Path.{sym}
+use denote.Ref.{now}
+use borrow.Author.Needs.{needs}
+use lib.ListN.{List·getD-eq-default}
+use Rattle.hamming_table.proofs.entry_at.Statement.{statement}
+use Rattle.hamming_table.proofs.entry_at.Tie as tie
+
+mul-result : tie.Need-mul-result
+mul-result c = search needs
+
+shared-slice-read-result : tie.Need-shared-slice-read-result
+shared-slice-read-result c = search needs
+
+returns : tie.Need-returns
+returns c = search needs
+
+returns-2 : tie.Need-returns-2
+returns-2 c = sym (List·getD-eq-default (now (c .before .args .t)) 0 (c .if1 .left))
+
+pub entry-at-spec : {M : Type 1} → statement M
+entry-at-spec = tie.close (tie.spec mul-result shared-slice-read-result returns returns-2)

@@ -1,2 +1,0 @@
--- What the contracts of `host` add to those of the crates it stands on.
-pub mod Hosts

@@ -1,3 +1,0 @@
--- What the contracts of `made` are stated in.
-pub mod Generator
-pub mod Digest

@@ -1,4 +1,0 @@
--- What the contracts of `mapping` are stated in: document 01, "GMP places".
-pub mod Groups
-pub mod RoundTrip
-pub mod Steps

@@ -1,0 +1,1 @@
+// Lists, loops, tests and counting: definitions and their laws. No code.

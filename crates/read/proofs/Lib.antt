@@ -1,0 +1,2 @@
+-- What `read` promises, once.
+pub mod Unique

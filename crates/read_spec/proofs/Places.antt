@@ -1,0 +1,182 @@
+-- The bytes of a super frame: out of its elements, a byte at once, and into information and parity. Assumes nothing.
+use Prim.Native.Nat.{ℕ, _+_, _-_, _*_, _/_, _%_, _≤_, _<_}
+use mathlib.Core.Path.{_≡_, sym, ap, ap₂, _∙_}
+use mathlib.Core.List.{List}
+use native.Mathlib.Nat.{zero-add}
+use native.Mathlib.Omega.{arith}
+use lib.Bits.{bitXor}
+use borrow.Rule.Slice.PartMut.{putMid}
+use lib.ListN.{length, getD, take, drop}
+use lib.Seq.{getD-take, getD-drop}
+use Rattle.prelude.specs.Lists.{tabulate, fromIndex}
+use Rattle.bits.specs.Bits.{num, bitAt, byteOf, added, Bits}
+use Rattle.prelude.proofs.Common.{by-bound}
+use Rattle.prelude.proofs.Lists.{getD-tabulate, tabulate-ext, Filled, filled-block}
+use Rattle.bits.proofs.Numbers.{num-ext, digit-num}
+use Rattle.bits.proofs.Packing.{bitOf-lt, bitOf-packs}
+use Rattle.bits.proofs.Xor.{num-xor}
+use Rattle.scrambler.specs.Scrambler.{o}
+use Rattle.scrambler.proofs.Rule.{o-lt}
+use Rattle.hamming.specs.Code.{joined}
+use Rattle.hamming.proofs.Words.{joined-low, joined-high, joined-bit}
+use Rattle.sizes.specs.Sizes.{infoBits, parityBits, parityFrom, fecBits, infoBytes, parityBytes, fecBlocks, superBits, superBytes, superElements}
+use Rattle.sizes.specs.Sizes.{elementBits, superInfoBytes, superParityBytes, wordBits, checkBits}
+use Rattle.line.specs.Frames.{superFrom, fecFrom}
+use Rattle.line.specs.Slots.{slotOf}
+use Rattle.line.specs.Words.{elementFrom, superIn, fecIn}
+use Rattle.read_spec.specs.Read.{repaired}
+use Rattle.read_spec.specs.Steps.{sequence, frameOf, firstWholeByte, followed, plainByte, infoIn, parityIn}
+
+-- ---- bits
+
+pub super-lt : (W : ℕ → List ℕ) (f : ℕ) → Bits (superIn W f)
+unfolding superIn superFrom
+super-lt W f k = omega arith
+
+-- the bits of two words that follow each other
+followed-low : (a b : List ℕ) (x : ℕ) → x < elementBits → bitAt (followed a b) x ≡ bitAt a x
+followed-low a b x h =
+    joined-bit (bitAt a) (num checkBits (bitAt b) 0) x (bitOf-lt 8 a) (omega arith) ∙ joined-low (bitAt a) (num checkBits (bitAt b) 0) x h
+
+followed-high : (a b : List ℕ) (x : ℕ) → elementBits ≤ x → x < wordBits → bitAt (followed a b) x ≡ bitAt b (x - elementBits)
+followed-high a b x l h =
+    let q : x ≡ elementBits + (x - elementBits) = omega arith in
+    joined-bit (bitAt a) (num checkBits (bitAt b) 0) x (bitOf-lt 8 a) h
+    ∙ ap (joined (bitAt a) (num checkBits (bitAt b) 0)) q
+    ∙ joined-high (bitAt a) (num checkBits (bitAt b) 0) (x - elementBits)
+    ∙ digit-num checkBits (bitAt b) 0 (x - elementBits) (bitOf-lt 8 b) (omega arith)
+    ∙ ap (bitAt b) (zero-add (x - elementBits))
+
+-- ---- a super frame out of its elements
+
+module _ (W : ℕ → List ℕ) (f l : ℕ) where
+  abbrev pair : List ℕ
+  pair = followed (W (slotOf (superElements * f + l))) (W (slotOf (superElements * f + (l + 1))))
+
+  -- the 128 bits from the first bit of element l on: 119 of its word, nine of the next one's
+  super-bit : (x : ℕ) → x < wordBits → superIn W f (elementBits * l + x) ≡ (bitAt pair x + o (elementBits * l + x)) % 2
+  unfolding superIn superFrom elementFrom
+  super-bit x h = by-bound elementBits x low high
+    where
+      low : x < elementBits → superIn W f (elementBits * l + x) ≡ (bitAt pair x + o (elementBits * l + x)) % 2
+      low m =
+          let p : (elementBits * l + x) / elementBits ≡ l = omega arith in
+          let q : (elementBits * l + x) % elementBits ≡ x = omega arith in
+          rw (p, q, followed-low (W (slotOf (superElements * f + l))) (W (slotOf (superElements * f + (l + 1)))) x m)
+
+      high : elementBits ≤ x → superIn W f (elementBits * l + x) ≡ (bitAt pair x + o (elementBits * l + x)) % 2
+      high m =
+          let p : (elementBits * l + x) / elementBits ≡ l + 1 = omega arith in
+          let q : (elementBits * l + x) % elementBits ≡ x - elementBits = omega arith in
+          rw (p, q, followed-high (W (slotOf (superElements * f + l))) (W (slotOf (superElements * f + (l + 1)))) x m h)
+
+  -- the same bits at their place in the super frame
+  placed : ℕ → ℕ
+  placed i = bitAt pair (i - elementBits * l)
+
+  placed-lt : Bits placed
+  unfolding placed
+  placed-lt i = bitOf-lt 8 pair (i - elementBits * l)
+
+  -- byte k from the first whole byte of element l on
+  plain-byte : (k : ℕ) → k < 15 → bitXor (num 8 (bitAt pair) (8 * k + l % 8)) (num 8 o (8 * (firstWholeByte l + k))) ≡ num 8 (superIn W f) (8 * (firstWholeByte l + k))
+  unfolding placed
+  plain-byte k h =
+      let p : 8 * (15 * l - l / 8 + k) ≡ elementBits * l + (8 * k + l % 8) = omega arith in
+      ap (λ (x : ℕ). bitXor x (num 8 o (8 * (firstWholeByte l + k))))
+      (num-ext 8 (bitAt pair) placed (8 * k + l % 8) (8 * (firstWholeByte l + k)) (λ j m. ap (bitAt pair) (omega arith)))
+      ∙ num-xor 8 placed o (8 * (firstWholeByte l + k)) placed-lt o-lt
+      ∙ num-ext 8 (added placed o) (superIn W f) (8 * (firstWholeByte l + k)) (8 * (firstWholeByte l + k))
+      (λ j m.
+      let q : 8 * (15 * l - l / 8 + k) + j ≡ elementBits * l + (8 * k + l % 8 + j) = omega arith in
+      let s : 8 * (15 * l - l / 8 + k) + j - elementBits * l ≡ 8 * k + l % 8 + j = omega arith in
+      ap₂ (λ (x y : ℕ). (bitAt pair x + o y) % 2) s q ∙ sym (super-bit (8 * k + l % 8 + j) (omega arith)) ∙ ap (superIn W f) (sym q))
+
+-- byte k of those that begin in element l, as the code makes it out of the element's word and the next one's
+pub element-byte : (cap scr v : List ℕ) (f l n k : ℕ) → scr ≡ sequence → v ≡ pair (repaired cap) f l → l < superElements → n ≡ firstWholeByte (l + 1) - firstWholeByte l
+    → k < n
+    → plainByte v (l % 8) (take n (drop (firstWholeByte l) scr)) k ≡ byteOf (superIn (repaired cap) f) (firstWholeByte l + k)
+unfolding plainByte
+element-byte cap scr v f l n k es ev hl en h =
+    ap₂ bitXor (ap (λ (s : List ℕ). num 8 (bitAt s) (8 * k + l % 8)) ev)
+    (getD-take n (drop (firstWholeByte l) scr) k 0 h ∙ getD-drop (firstWholeByte l) scr k 0
+    ∙ ap (λ (s : List ℕ). getD s (firstWholeByte l + k) 0) es
+    ∙ getD-tabulate 0 superBytes (byteOf o) (firstWholeByte l + k) (omega arith))
+    ∙ plain-byte (repaired cap) f l k (omega arith)
+
+-- ---- FEC blocks in a super frame
+
+pub frame-bit : (cap : List ℕ) (f i : ℕ) → i < superBits → bitAt (frameOf cap f) i ≡ superIn (repaired cap) f i
+frame-bit cap f i h = bitOf-packs 8 superBytes (superIn (repaired cap) f) i (super-lt (repaired cap) f) h
+
+pub fec-at : (W : ℕ → List ℕ) (f b i : ℕ) → b < fecBlocks → fecIn W (fecBlocks * f + b) i ≡ superIn W f (fecBits * b + i)
+unfolding fecIn fecFrom
+fec-at W f b i h =
+    let p : (fecBlocks * f + b) / fecBlocks ≡ f = omega arith in
+    let q : (fecBlocks * f + b) % fecBlocks ≡ b = omega arith in
+    rw (p, q)
+
+pub frame-fec : (cap : List ℕ) (f b i : ℕ) → b < fecBlocks → i < fecBits → bitAt (frameOf cap f) (fecBits * b + i) ≡ fecIn (repaired cap) (fecBlocks * f + b) i
+frame-fec cap f b i h l = frame-bit cap f (fecBits * b + i) (omega arith) ∙ sym (fec-at (repaired cap) f b i h)
+
+-- ---- information and parity
+
+-- byte k of block b's, out of a super frame
+pub info-byte : (s : List ℕ) (b k : ℕ) → k < infoBytes → byteOf (fromIndex (bitAt s) (fecBits * b)) k ≡ byteOf (infoIn s) (infoBytes * b + k)
+unfolding infoIn
+info-byte s b k h =
+    num-ext 8 (fromIndex (bitAt s) (fecBits * b)) (infoIn s) (8 * k) (8 * (infoBytes * b + k))
+    (λ j m.
+    let p : (8 * (infoBytes * b + k) + j) / infoBits ≡ b = omega arith in
+    let q : (8 * (infoBytes * b + k) + j) % infoBits ≡ 8 * k + j = omega arith in
+    rw (p, q))
+
+pub parity-byte : (s : List ℕ) (b k : ℕ) → k < parityBytes → byteOf (fromIndex (bitAt s) (fecBits * b + parityFrom)) k ≡ byteOf (parityIn s) (parityBytes * b + k)
+unfolding parityIn
+parity-byte s b k h =
+    num-ext 8 (fromIndex (bitAt s) (fecBits * b + parityFrom)) (parityIn s) (8 * k) (8 * (parityBytes * b + k))
+    (λ j m.
+    let p : (8 * (parityBytes * b + k) + j) / parityBits ≡ b = omega arith in
+    let q : (8 * (parityBytes * b + k) + j) % parityBits ≡ 8 * k + j = omega arith in
+    rw (p, q) (ap (bitAt s) (omega arith)))
+
+-- bit j of the information, and of the parity, of FEC blocks with the bits F
+abbrev pub infoAll : (ℕ → ℕ → ℕ) → ℕ → ℕ
+infoAll F j = F (j / infoBits) (j % infoBits)
+
+abbrev pub parityAll : (ℕ → ℕ → ℕ) → ℕ → ℕ
+parityAll F j = F (j / parityBits) (parityFrom + j % parityBits)
+
+-- byte k of super frame f's, in the whole
+pub info-whole : (cap s : List ℕ) (f k : ℕ) → s ≡ frameOf cap f → k < superInfoBytes
+    → byteOf (infoIn s) k ≡ byteOf (infoAll (fecIn (repaired cap))) (superInfoBytes * f + k)
+unfolding infoIn
+info-whole cap s f k e h =
+    ap (λ (l : List ℕ). byteOf (infoIn l) k) e
+    ∙ num-ext 8 (infoIn (frameOf cap f)) (infoAll (fecIn (repaired cap))) (8 * k) (8 * (superInfoBytes * f + k))
+    (λ j m.
+    let p : (8 * (superInfoBytes * f + k) + j) / infoBits ≡ 5 * f + (8 * k + j) / infoBits = omega arith in
+    let q : (8 * (superInfoBytes * f + k) + j) % infoBits ≡ (8 * k + j) % infoBits = omega arith in
+    frame-fec cap f ((8 * k + j) / infoBits) ((8 * k + j) % infoBits) (omega arith) (omega arith)
+    ∙ sym (ap₂ (fecIn (repaired cap)) p q))
+
+pub parity-whole : (cap s : List ℕ) (f k : ℕ) → s ≡ frameOf cap f → k < superParityBytes
+    → byteOf (parityIn s) k ≡ byteOf (parityAll (fecIn (repaired cap))) (superParityBytes * f + k)
+unfolding parityIn
+parity-whole cap s f k e h =
+    ap (λ (l : List ℕ). byteOf (parityIn l) k) e
+    ∙ num-ext 8 (parityIn (frameOf cap f)) (parityAll (fecIn (repaired cap))) (8 * k) (8 * (superParityBytes * f + k))
+    (λ j m.
+    let p : (8 * (superParityBytes * f + k) + j) / parityBits ≡ 5 * f + (8 * k + j) / parityBits = omega arith in
+    let q : (8 * (superParityBytes * f + k) + j) % parityBits ≡ (8 * k + j) % parityBits = omega arith in
+    frame-fec cap f ((8 * k + j) / parityBits) (parityFrom + (8 * k + j) % parityBits) (omega arith) (omega arith)
+    ∙ sym (ap₂ (λ (x y : ℕ). fecIn (repaired cap) x (parityFrom + y)) p q))
+
+-- ---- a part that a callee filled
+
+-- the callee's m elements are h, which is f from a on
+pub bytes-filled : {a : ℕ} {f : ℕ → ℕ} {d out : List ℕ} (k e : ℕ) {ys : List ℕ} (m : ℕ) (h : ℕ → ℕ) → Filled a f d out → e ≡ a + k → e ≤ length d → m ≡ k
+    → ys ≡ tabulate m h
+    → ((j : ℕ) → j < k → h j ≡ f (a + j)) → Filled e f d (putMid a k out ys)
+bytes-filled {a} {f} k e m h i p l q y each =
+    filled-block k e i p l (y ∙ ap (λ (n : ℕ). tabulate n h) q ∙ tabulate-ext k h (λ j. f (a + j)) each)

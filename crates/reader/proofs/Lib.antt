@@ -1,2 +1,0 @@
--- What `reader` promises, once.
-pub mod Unique

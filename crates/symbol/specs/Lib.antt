@@ -1,0 +1,2 @@
+-- What the contracts of `symbol` are stated in.
+pub mod Levels

@@ -1,2 +1,0 @@
--- What the contracts of `symbols` are stated in.
-pub mod Levels

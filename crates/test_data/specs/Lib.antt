@@ -1,0 +1,3 @@
+-- What the contracts of `test_data` are stated in.
+pub mod Generator
+pub mod Digest

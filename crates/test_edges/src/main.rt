@@ -1,0 +1,17 @@
+// The edges of document 01, section "Both sides of each edge", and the published vectors of the documents, with what was answered; then captures and windows
+// from many seeds.
+mod captures;
+mod frames;
+mod mapped;
+mod places;
+mod published;
+mod starred;
+
+fn main() {
+    starred::cases();
+    places::cases();
+    frames::cases();
+    published::vectors();
+    captures::vectors();
+    mapped::vectors();
+}

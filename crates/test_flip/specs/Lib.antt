@@ -1,0 +1,2 @@
+-- What the contracts of `test_flip` are stated in.
+pub mod Flipped

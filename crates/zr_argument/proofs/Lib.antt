@@ -1,0 +1,3 @@
+-- The laws of `zr_argument`.
+pub mod Digits
+pub mod Unique

@@ -1,0 +1,2 @@
+-- What the contracts of `zr_argument` are stated in.
+pub mod Numbers

@@ -1,0 +1,154 @@
+// What is said to the person at the shell: to standard output, one answer that begins `done`, `refused` or `failed`.
+use answer::Answer;
+use libc::STDOUT_FILENO;
+
+fn say(text: &[u8]) {
+    io::write_all(STDOUT_FILENO, text);
+}
+
+fn say_number(number: u64) {
+    io::print_decimal(STDOUT_FILENO, number);
+}
+
+// Done, with a count, what it counts and what was done with it.
+pub fn done(count: u64, what: &[u8], then: &[u8]) {
+    say(b"done: ");
+    say_number(count);
+    say(what);
+    if count != 1 {
+        say(b"s");
+    }
+    say(then);
+}
+
+pub fn done_words(count: u64, then: &[u8]) {
+    done(count, b" word", then);
+}
+
+// Refused, with the number, the place and what they mean.
+pub fn refused(answer: Answer) {
+    let number = answer.number;
+    say(b"refused ");
+    say_number(number);
+    if answer::BEYOND_REPAIR <= number {
+        place(number, answer.place);
+    }
+    say(b": ");
+    meaning(number);
+    say(b"\n");
+}
+
+// Document 01, "Numbers handed back": what the place of a number counts.
+fn place(number: u64, at: u64) {
+    if number == answer::WRONG_MBAS || number == answer::WRONG_CRC {
+        say(b" at FEC block ");
+    } else if number == answer::PAD_NOT_ZERO {
+        say(b" at super frame ");
+    } else {
+        say(b" at word ");
+    }
+    say_number(at);
+}
+
+// Document 01, "Numbers handed back": when a number is given.
+fn meaning(number: u64) {
+    match number {
+        1 => say(b"a number is outside its stated set"),
+        2 => say(b"a buffer's length is not the stated one"),
+        3 => say(b"a spare bit is not zero"),
+        4 => say(b"a word beyond repair"),
+        5 => say(b"a filler word not zero after repair"),
+        6 => say(b"MBAS not the expected number"),
+        7 => say(b"CRC wrong"),
+        8 => say(b"pad not zero"),
+        9 => say(b"a word to be listed fails a check"),
+        _ => say(b"a number that zr does not know"),
+    }
+}
+
+// Under a refusal by 1: the sets.
+pub fn sets(answer: Answer, text: &[u8]) {
+    if answer.number == answer::OUTSIDE_SET {
+        say(text);
+    }
+}
+
+// Under a refusal by 2: a file whose length is wrong.
+pub fn length(answer: Answer, name: &[u8], has: usize, wanted: usize) {
+    if answer.number != answer::WRONG_LENGTH || has == wanted {
+        return;
+    }
+    say(b"  ");
+    say(name);
+    if wanted < has {
+        say(b" has more than the ");
+        say_number(wanted as u64);
+        say(b" bytes that are wanted\n");
+    } else {
+        say(b" has ");
+        say_number(has as u64);
+        say(b" bytes, and ");
+        say_number(wanted as u64);
+        say(b" are wanted\n");
+    }
+}
+
+// Something could not be done with a file or an argument.
+pub fn failed(what: &[u8], why: &[u8]) {
+    say(b"failed: ");
+    say(what);
+    say(why);
+}
+
+// What an argument was, on the rest of the line.
+pub fn rest(text: &[u8]) {
+    say(text);
+    end();
+}
+
+fn end() {
+    say(b"\n");
+}
+
+// The listed words, sixteen to a line.
+pub fn words(list: &[u64; 145], count: u64) {
+    let mut k = 0;
+    while k < 145 {
+        if (k as u64) < count {
+            say_word(k, list[k]);
+        }
+        k += 1;
+    }
+    end();
+}
+
+fn say_word(k: usize, word: u64) {
+    if k % 16 == 0 {
+        say(b"\n ");
+    }
+    say(b" ");
+    say_number(word);
+}
+
+pub fn unknown() {
+    say(b"failed: no such command, or not the arguments that it takes; this is what zr takes:\n");
+    help();
+}
+
+pub fn help() {
+    say(
+        b"\
+        zr code  N M0 INFO PARITY CAPTURE        codes N super frames into the file CAPTURE\n\
+        zr read  N M0 CAPTURE INFO PARITY        reads them back and repairs one wrong bit in each word\n\
+        zr edit  N BLOCK BITS PARITY CAPTURE OUT replaces a client block and its FEC block's parity, and lists the words\n\
+        zr map   C F N GROUPS WINDOW             puts data groups into the window of N places from place F on\n\
+        zr unmap C F N WINDOW GROUPS             takes them out again\n\
+        zr runs  C                               lists the runs of data and stuff places under the count C\n\
+        zr help                                  this text\n\
+        \n\
+        N is 1 to 8 super frames and M0, where the FEC blocks count from, 0 to 63. INFO has 152915 bytes for each\n\
+        super frame, PARITY 10240, and CAPTURE 175616 and 7680 more. For an edit BLOCK is 0 to 4760 N - 1, BITS has 33 bytes\n\
+        (257 bits, seven zero bits) and PARITY 2048. C is 0 to 10220, F odd, N even. Files that are written stand last.\n\
+        An answer begins `done`, `refused` and a number of the scope's table, or `failed`. A refusal writes no file.\n",
+    );
+}
