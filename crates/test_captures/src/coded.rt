@@ -3,7 +3,6 @@
 ghost use mathlib.Core.Path.{_≡_};
 ghost use lib.ListN.{length};
 ghost use Rattle.buffer_sizes.specs.Lengths.{largeBytes};
-use crate::inputs;
 use answer::Answer;
 
 fn say(r: Answer, before: u64, after: u64) {
@@ -18,7 +17,7 @@ fn say(r: Answer, before: u64, after: u64) {
 
 // The capture stands full of bytes made from the seed 999.
 fn code_into(n: u64, m0: u64, info: &[u8], parity: &[u8], capture: &mut [u8]) {
-    inputs::fill(999, capture);
+    test_input::fill(999, capture);
     let before = test_data::digest(capture);
     let r = capture::code(n, m0, info, parity, capture);
     say(r, before, test_data::digest(capture));
@@ -37,12 +36,12 @@ fn code_from(n: u64, m0: u64, info: usize, parity: usize, capture: usize, room: 
 // Codes with buffers of the lengths given. The information is made from the seed 100 + n, and the parity behind it.
 fn code(n: u64, m0: u64, info: usize, parity: usize, capture: usize) {
     let mut room = buffer_sizes::large_space();
-    inputs::fill_room(n, &mut room);
+    test_input::fill_room(n, &mut room);
     code_from(n, m0, info, parity, capture, &room);
 }
 
 fn granted(n: u64) {
-    let m0 = inputs::first_number(n);
+    let m0 = test_input::first_number(n);
     test_print::frames(n);
     test_print::number(b" m0 ", m0);
     code(

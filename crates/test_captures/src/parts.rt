@@ -1,6 +1,4 @@
 // Requests for the information of an FEC block, granted and refused, with the second question, and the length and a digest of the part that came.
-use crate::inputs;
-
 fn part(n: u64, t: u64, info: &[u8]) {
     let r = capture::information_answer(n, t, info);
     let p = capture::information(n, t, info);
@@ -27,7 +25,7 @@ fn ask(n: u64, last: u64, info: &[u8]) {
 fn parts(n: u64, last: u64) {
     let mut info = buffer_sizes::large_space();
     let a = buffer_sizes::information(n);
-    inputs::fill_room(n, &mut info);
+    test_input::fill_room(n, &mut info);
     ask(n, last, &info[0..a]);
 }
 
@@ -35,7 +33,7 @@ fn parts(n: u64, last: u64) {
 fn named(name: &[u8], n: u64, t: u64, length: usize) {
     let mut info = buffer_sizes::large_space();
     let a = length % (buffer_sizes::LARGE_BYTES + 1);
-    inputs::fill(101, &mut info);
+    test_input::fill(101, &mut info);
     test_print::text(name);
     part(n, t, &info[0..a]);
 }

@@ -1,6 +1,5 @@
 // Reads captures of 1 and of 8 super frames: as they were coded, with one bit flipped in every word, refused by each number at its first and at its
 // last place, by two numbers at once, and for numbers and lengths. Digests show what the buffers hold after each call.
-use crate::inputs;
 use answer::Answer;
 
 // A length is taken below these: a space, and no more, has room for it.
@@ -23,7 +22,7 @@ fn digest_of(seed: u64, from: usize, to: usize) -> u64 {
         return 0;
     }
     let mut room = buffer_sizes::large_space();
-    inputs::fill(seed, &mut room);
+    test_input::fill(seed, &mut room);
     test_data::digest(&room[from..b])
 }
 
@@ -31,8 +30,8 @@ fn digest_of(seed: u64, from: usize, to: usize) -> u64 {
 
 // What the buffers are full of before a call.
 fn before(info: &mut [u8], parity: &mut [u8]) {
-    inputs::fill(998, info);
-    inputs::fill(997, parity);
+    test_input::fill(998, info);
+    test_input::fill(997, parity);
 }
 
 // Writes what that is, at the lengths given.
@@ -110,7 +109,7 @@ fn last_block(n: u64) -> usize {
 }
 
 fn flipped_in(n: u64, m0: u64, w: usize, v: [u8; 16], x: usize, u: [u8; 16], capture: &mut [u8]) {
-    inputs::code(n, capture);
+    test_input::code(n, capture);
     test_flip::flip(capture, w, v);
     test_flip::flip(capture, x, u);
     read_stated(n, m0, capture);
@@ -124,7 +123,7 @@ fn counted_from(n: u64, m0: u64, w: usize, v: [u8; 16], x: usize, u: [u8; 16]) {
 
 // Reads with the bits of v flipped in word w and those of u in word x.
 fn flipped(n: u64, w: usize, v: [u8; 16], x: usize, u: [u8; 16]) {
-    counted_from(n, inputs::first_number(n), w, v, x, u);
+    counted_from(n, test_input::first_number(n), w, v, x, u);
 }
 
 fn once(n: u64, w: usize, v: [u8; 16]) {
@@ -151,9 +150,9 @@ fn as_coded(n: u64) {
 }
 
 fn all_in(n: u64, capture: &mut [u8]) {
-    inputs::code(n, capture);
+    test_input::code(n, capture);
     test_flip::flip_in_all(capture);
-    read_stated(n, inputs::first_number(n), capture);
+    read_stated(n, test_input::first_number(n), capture);
 }
 
 fn every_word(n: u64) {

@@ -57,7 +57,7 @@ loop-again c =
     let l = t .before .before .before .before in
     let a = l .before .before .before .args in (
       folded-more (l .loop .inv .0)
-          (once (now (a .flips)) _ (l .loop .w) (t .before .word-in .ensures) (t .flip-of .ensures) (h .flip-if-word .ensures) (p .put-word .ensures)),
+          (once (now (a .flips)) _ (l .loop .w) (t .before .word-in .ensures) (t .flip-of .ensures) (h .flip-word .ensures) (p .put-word .ensures)),
       search needs,
       omega arith,
     )

@@ -5,10 +5,10 @@ use Rattle.test_print.proofs.word.Statement.{statement}
 use Rattle.test_print.proofs.word.Tie as tie
 
 abbrev Inv-loop : tie.InvT-loop
-Inv-loop name w k₀ t5 k = k ≤ 16
+Inv-loop name w k₀ k = k ≤ 16
 
 abbrev μ-loop : tie.MeasureT-loop
-μ-loop name w k₀ t5 k = 16 - k
+μ-loop name w k₀ k = 16 - k
 
 text-requires : tie.Need-text-requires Inv-loop μ-loop
 text-requires c κs = search needs
@@ -16,14 +16,11 @@ text-requires c κs = search needs
 loop-holds : tie.Need-loop-holds Inv-loop μ-loop
 loop-holds c = search needs
 
-array-read-wide : tie.Need-array-read-wide Inv-loop μ-loop
-array-read-wide c = search needs
+array-read-byte : tie.Need-array-read-byte Inv-loop μ-loop
+array-read-byte c = search needs
 
-wide-requires : tie.Need-wide-requires Inv-loop μ-loop
-wide-requires c κs = search needs
-
-print-hex-requires : tie.Need-print-hex-requires Inv-loop μ-loop
-print-hex-requires c κs = search needs
+byte-requires : tie.Need-byte-requires Inv-loop μ-loop
+byte-requires c κs = search needs
 
 add-k : tie.Need-add-k Inv-loop μ-loop
 add-k c = search needs
@@ -34,11 +31,8 @@ loop-less c = search needs
 loop-again : tie.Need-loop-again Inv-loop μ-loop
 loop-again c = search needs
 
-slice-aggregate-text : tie.Need-slice-aggregate-text Inv-loop μ-loop
-slice-aggregate-text c = search needs
-
-text-requires-2 : tie.Need-text-requires-2 Inv-loop μ-loop
-text-requires-2 c κs = search needs
+end-requires : tie.Need-end-requires Inv-loop μ-loop
+end-requires c κs = search needs
 
 returns : tie.Need-returns Inv-loop μ-loop
 returns c = search needs
@@ -46,5 +40,15 @@ returns c = search needs
 pub word-spec : {M : Type 1} → statement M
 word-spec =
     tie.close
-    (tie.spec Inv-loop μ-loop text-requires loop-holds array-read-wide wide-requires print-hex-requires add-k loop-less loop-again
-    slice-aggregate-text text-requires-2 returns)
+    (tie.spec
+    Inv-loop
+    μ-loop
+    text-requires
+    loop-holds
+    array-read-byte
+    byte-requires
+    add-k
+    loop-less
+    loop-again
+    end-requires
+    returns)

@@ -1,10 +1,10 @@
--- `test_captures::edits::fill_words` is safe and ends. Assumes nothing.
+-- `test_edits::fill_words` is safe and ends. Assumes nothing.
 use Prim.Native.Nat.{_-_, _≤_}
 use mathlib.Core.Path.{_≡_}
 use lib.ListN.{length}
 use borrow.Author.Needs.{needs}
-use Rattle.test_captures.proofs.edits.fill_words.Statement.{statement}
-use Rattle.test_captures.proofs.edits.fill_words.Tie as tie
+use Rattle.test_edits.proofs.fill_words.Statement.{statement}
+use Rattle.test_edits.proofs.fill_words.Tie as tie
 
 abbrev Inv-loop : tie.InvT-loop
 Inv-loop seed capture₀ g₀ w₀ capture g w = (w ≤ 11456) × (length capture ≡ length capture₀)

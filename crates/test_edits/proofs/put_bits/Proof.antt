@@ -1,10 +1,10 @@
--- `test_captures::edits::put_bits` is safe and ends. Assumes nothing.
+-- `test_edits::put_bits` is safe and ends. Assumes nothing.
 use Prim.Native.Nat.{_-_, _≤_}
 use mathlib.Core.Path.{_≡_}
 use lib.ListN.{length}
 use borrow.Author.Needs.{needs}
-use Rattle.test_captures.proofs.edits.put_bits.Statement.{statement}
-use Rattle.test_captures.proofs.edits.put_bits.Tie as tie
+use Rattle.test_edits.proofs.put_bits.Statement.{statement}
+use Rattle.test_edits.proofs.put_bits.Tie as tie
 
 abbrev Inv-loop : tie.InvT-loop
 Inv-loop s₀ from new count i₀ i-end s i = (i ≤ i-end) × (length s ≡ length s₀)

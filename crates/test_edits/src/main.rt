@@ -3,7 +3,6 @@
 ghost use mathlib.Core.Path.{_≡_};
 ghost use lib.ListN.{length};
 ghost use Rattle.buffer_sizes.specs.Lengths.{largeBytes};
-use crate::inputs;
 use answer::Answer;
 use test_data::Generator;
 
@@ -29,7 +28,7 @@ const ONE_WORDS: usize = sizes::SUPER_ELEMENTS + sizes::LONGEST_WAIT;
 // The client block that an edit of a block puts in. The spare bits are the low seven of byte 32, which stand behind the 257.
 fn client_of(block: u64, spare: u8) -> [u8; sizes::BLOCK_BYTES] {
     let mut bits = [0u8; sizes::BLOCK_BYTES];
-    inputs::fill(300 + block % 100000, &mut bits);
+    test_input::fill(300 + block % 100000, &mut bits);
     bits[32] = bits[32] & 128 | spare;
     bits
 }
@@ -37,7 +36,7 @@ fn client_of(block: u64, spare: u8) -> [u8; sizes::BLOCK_BYTES] {
 // The parity that an edit of a block puts in.
 fn parity_of(block: u64) -> [u8; sizes::PARITY_BYTES] {
     let mut parity = [0u8; sizes::PARITY_BYTES];
-    inputs::fill(301 + block % 100000, &mut parity);
+    test_input::fill(301 + block % 100000, &mut parity);
     parity
 }
 
@@ -71,7 +70,7 @@ fn put_bits(s: &mut [u8], from: usize, new: &[u8], count: usize) {
 // neither.
 fn fill_input(n: u64, block: u64, room: &mut [u8]) {
     let b = (block % 100000) as usize;
-    inputs::fill_room(n, room);
+    test_input::fill_room(n, room);
     put_bits(
         room,
         sizes::BLOCK_BITS * b,
@@ -89,7 +88,7 @@ fn fill_input(n: u64, block: u64, room: &mut [u8]) {
 fn code(n: u64, block: u64, capture: &mut [u8]) {
     let mut room = buffer_sizes::large_space();
     fill_input(n, block, &mut room);
-    inputs::code_from(n, &room, capture);
+    test_input::code_room(n, &room, capture);
 }
 
 // ---- an edit
@@ -191,7 +190,7 @@ fn is_input(n: u64, block: u64, info: &[u8], parity: &[u8]) -> bool {
 }
 
 fn reads_into(n: u64, block: u64, capture: &[u8], info: &mut [u8], parity: &mut [u8]) -> bool {
-    let r = capture::read(n, inputs::first_number(n), capture, info, parity);
+    let r = capture::read(n, test_input::first_number(n), capture, info, parity);
     r.number == 0 && r.count == 0 && is_input(n, block, info, parity)
 }
 
@@ -441,7 +440,7 @@ fn refusals() {
     wrong_words();
 }
 
-pub fn cases() {
+fn main() {
     list_before();
     grants();
     refusals();

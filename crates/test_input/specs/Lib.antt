@@ -1,0 +1,2 @@
+-- What the programs of captures start from.
+pub mod Inputs
