@@ -57,24 +57,26 @@ fn there_and_back(c: u64, f: u64, n: u64, groups: &mut [u8], window: &mut [u8], 
     unmap(c, f, n, window, back);
 }
 
-fn two_places(c: u64, f: u64) {
-    let mut groups = [0u8; sizes::PAIR_BYTES];
-    let mut window = [90u8; sizes::PAIR_BYTES];
-    let mut back = [60u8; sizes::PAIR_BYTES];
-    there_and_back(c, f, 2, &mut groups, &mut window, &mut back);
-}
-
-fn four_places(c: u64, f: u64) {
+// The n places from place f on, four at most.
+fn sized(c: u64, f: u64, n: u64) {
     let mut groups = [0u8; FOUR_PLACES];
     let mut window = [90u8; FOUR_PLACES];
     let mut back = [60u8; FOUR_PLACES];
-    there_and_back(c, f, 4, &mut groups, &mut window, &mut back);
+    let k = buffer_sizes::window(n) % (FOUR_PLACES + 1);
+    there_and_back(
+        c,
+        f,
+        n,
+        &mut groups[0..k],
+        &mut window[0..k],
+        &mut back[0..k],
+    );
 }
 
 pub fn cases() {
     crate::starred::place(10221, 1);
     runs(10221, 1);
-    two_places(10221, 1);
-    two_places(10220, 10219);
-    four_places(10220, 10219);
+    sized(10221, 1, 2);
+    sized(10220, 10219, 2);
+    sized(10220, 10219, 4);
 }
