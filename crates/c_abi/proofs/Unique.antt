@@ -15,33 +15,33 @@ use Rattle.c_abi.proofs.zr400_code.Reads as code
 use Rattle.c_abi.proofs.zr400_read.Reads as read
 use Rattle.c_abi.proofs.zr400_edit.Reads as edit
 
-pub one-run : (κs : _) (a : _) (x y : _) (s t : _) → run.Post κs a x s → run.Post κs a y t → x ≡ y
-one-run κs a x y s t p q = only p q
+pub one-zr400-run : (κs : _) (a : _) (x y : _) (s t : _) → run.Post κs a x s → run.Post κs a y t → x ≡ y
+one-zr400-run κs a x y s t p q = only p q
 
-pub one-runs : (κs : _) (a : _) (x y : _) (s t : _) → runs.Post κs a x s → runs.Post κs a y t → x ≡ y
-one-runs κs a x y s t p q = only p q
+pub one-zr400-runs : (κs : _) (a : _) (x y : _) (s t : _) → runs.Post κs a x s → runs.Post κs a y t → x ≡ y
+one-zr400-runs κs a x y s t p q = only p q
 
 -- s and t are the two states at exit; their last part is what is left in `window`, or in `groups`
-pub one-map : (κs : _) (a : _) (x y : _) (s t : _) → map.Post κs a x s → map.Post κs a y t → (x ≡ y) × (now (s .1 .1 .1 .1 .0) ≡ now (t .1 .1 .1 .1 .0))
-one-map κs a x y s t p q = only-outcome p q
+pub one-zr400-map : (κs : _) (a : _) (x y : _) (s t : _) → map.Post κs a x s → map.Post κs a y t → (x ≡ y) × (now (s .1 .1 .1 .1 .0) ≡ now (t .1 .1 .1 .1 .0))
+one-zr400-map κs a x y s t p q = only-outcome p q
 
-pub one-unmap : (κs : _) (a : _) (x y : _) (s t : _) → unmap.Post κs a x s → unmap.Post κs a y t
+pub one-zr400-unmap : (κs : _) (a : _) (x y : _) (s t : _) → unmap.Post κs a x s → unmap.Post κs a y t
     → (x ≡ y) × (now (s .1 .1 .1 .1 .0) ≡ now (t .1 .1 .1 .1 .0))
-one-unmap κs a x y s t p q = only-outcome p q
+one-zr400-unmap κs a x y s t p q = only-outcome p q
 
-pub one-information : (κs : _) (a : _) (x y : _) (s t : _) → information.Post κs a x s → information.Post κs a y t → x ≡ y
-one-information κs a x y s t p q = only p q
+pub one-zr400-information : (κs : _) (a : _) (x y : _) (s t : _) → information.Post κs a x s → information.Post κs a y t → x ≡ y
+one-zr400-information κs a x y s t p q = only p q
 
 -- part 4 at exit is `capture`
-pub one-code : (κs : _) (a : _) (x y : _) (s t : _) → code.Post κs a x s → code.Post κs a y t → (x ≡ y) × (now (s .1 .1 .1 .1 .0) ≡ now (t .1 .1 .1 .1 .0))
-one-code κs a x y s t p q = only-outcome p q
+pub one-zr400-code : (κs : _) (a : _) (x y : _) (s t : _) → code.Post κs a x s → code.Post κs a y t → (x ≡ y) × (now (s .1 .1 .1 .1 .0) ≡ now (t .1 .1 .1 .1 .0))
+one-zr400-code κs a x y s t p q = only-outcome p q
 
 -- parts 3 and 4 at exit are `info` and `parity`
-pub one-read : (κs : _) (a : _) (x y : _) (s t : _) → read.Post κs a x s → read.Post κs a y t
+pub one-zr400-read : (κs : _) (a : _) (x y : _) (s t : _) → read.Post κs a x s → read.Post κs a y t
     → (x ≡ y) × _≡_ {A = List ℕ × List ℕ} (now (s .1 .1 .1 .0), now (s .1 .1 .1 .1 .0)) (now (t .1 .1 .1 .0), now (t .1 .1 .1 .1 .0))
-one-read κs a x y s t p q = only-outcome p q
+one-zr400-read κs a x y s t p q = only-outcome p q
 
 -- parts 4 and 5 at exit are `capture` and `list`
-pub one-edit : (κs : _) (a : _) (x y : _) (s t : _) → edit.Post κs a x s → edit.Post κs a y t
+pub one-zr400-edit : (κs : _) (a : _) (x y : _) (s t : _) → edit.Post κs a x s → edit.Post κs a y t
     → (x ≡ y) × _≡_ {A = List ℕ × List ℕ} (now (s .1 .1 .1 .1 .0), now (s .1 .1 .1 .1 .1 .0)) (now (t .1 .1 .1 .1 .0), now (t .1 .1 .1 .1 .1 .0))
-one-edit κs a x y s t p q = only-outcome p q
+one-zr400-edit κs a x y s t p q = only-outcome p q

@@ -12,7 +12,7 @@ use Rattle.bits.specs.Bits.{added, Bits}
 use Rattle.bits.proofs.Xor.{xor-assoc}
 use Rattle.crc.specs.Remainder.{polynomial, remFrom}
 use Rattle.crc.specs.Division.{generator}
-use Rattle.crc.specs.Crc.{powers, width, poly, step, shiftN, remOf, opened, ones, crcOf}
+use Rattle.crc.specs.Crc.{powers, width, poly, crcStep, crcShiftN, crcRem, opened, ones, crcOf}
 use Rattle.crc.proofs.Linear as any
 
 -- ---- the generator
@@ -39,11 +39,11 @@ generator-is = refl
 pub rem-ext : (r : ℕ) (f g : ℕ → ℕ) (n : ℕ) → ((i : ℕ) → i < n → f i ≡ g i) → remFrom width poly r f n ≡ remFrom width poly r g n
 rem-ext = any.rem-ext width poly
 
-pub rem-more : {r b x : ℕ} (f : ℕ → ℕ) (n : ℕ) → r ≡ remOf f n → b ≡ f n → x ≡ step r b → x ≡ remOf f (n + 1)
+pub rem-more : {r b x : ℕ} (f : ℕ → ℕ) (n : ℕ) → r ≡ crcRem f n → b ≡ f n → x ≡ crcStep r b → x ≡ crcRem f (n + 1)
 rem-more = any.rem-more width poly
 
 pub alone : (d : ℕ → ℕ) (n k m : ℕ) → ((i : ℕ) → i < n → d i ≡ 0) → ((i : ℕ) → i < m → d (n + (k + i)) ≡ 0)
-    → remOf d (n + (k + m)) ≡ shiftN m (remOf (λ i. d (n + i)) k)
+    → crcRem d (n + (k + m)) ≡ crcShiftN m (crcRem (λ i. d (n + i)) k)
 alone = any.alone width poly
 
 -- ---- the complements
@@ -65,7 +65,7 @@ cond-sum false x d h = refl
 -- the CRC has 32 digits
 pub crc-lt : (n : ℕ) (f : ℕ → ℕ) → Bits f → crcOf n f < 2 ^ 32
 unfolding crcOf
-crc-lt n f h = xor-lt 32 ones (remOf (opened f) n) (ones-lt 32) (any.rem-lt width poly poly-lt (opened f) n (opened-lt f h))
+crc-lt n f h = xor-lt 32 ones (crcRem (opened f) n) (ones-lt 32) (any.rem-lt width poly poly-lt (opened f) n (opened-lt f h))
 
 -- only the n bits count
 pub crc-ext : (n : ℕ) (f g : ℕ → ℕ) → ((i : ℕ) → i < n → f i ≡ g i) → crcOf n f ≡ crcOf n g
@@ -74,10 +74,10 @@ crc-ext n f g h = ap (bitXor ones) (rem-ext 0 (opened f) (opened g) n (λ i l. r
 
 -- a change d of the bits changes the CRC by what d leaves, without complements
 pub crc-change : (n : ℕ) (f g d : ℕ → ℕ) → Bits f → Bits d → ((i : ℕ) → i < n → g i ≡ (f i + d i) % 2)
-    → crcOf n g ≡ bitXor (crcOf n f) (remOf d n)
+    → crcOf n g ≡ bitXor (crcOf n f) (crcRem d n)
 unfolding crcOf opened
 crc-change n f g d hf hd h =
     ap (bitXor ones)
     (rem-ext 0 (opened g) (added (opened f) d) n (λ i l. rw (h i l) (cond-sum (ltb i 32) (f i) (d i) (hf i)))
     ∙ any.linear width poly (opened f) d n (opened-lt f hf) hd)
-    ∙ sym (xor-assoc ones (remOf (opened f) n) (remOf d n))
+    ∙ sym (xor-assoc ones (crcRem (opened f) n) (crcRem d n))

@@ -22,18 +22,18 @@ unfoldable pub poly : ℕ
 poly = any.polynomial (drop 1 powers)
 
 -- what r·x leaves, what it leaves with one more bit, and what r·x^m leaves
-abbrev pub shift : ℕ → ℕ
-shift r = any.shift width poly r
+abbrev pub crcShift : ℕ → ℕ
+crcShift r = any.shift width poly r
 
-abbrev pub step : ℕ → ℕ → ℕ
-step r b = any.step width poly r b
+abbrev pub crcStep : ℕ → ℕ → ℕ
+crcStep r b = any.step width poly r b
 
-abbrev pub shiftN : ℕ → ℕ → ℕ
-shiftN m r = any.shiftN width poly m r
+abbrev pub crcShiftN : ℕ → ℕ → ℕ
+crcShiftN m r = any.shiftN width poly m r
 
 -- the remainder of f·x^32, f the polynomial of n bits
-abbrev pub remOf : (ℕ → ℕ) → ℕ → ℕ
-remOf f n = any.remOf width poly f n
+abbrev pub crcRem : (ℕ → ℕ) → ℕ → ℕ
+crcRem f n = any.remOf width poly f n
 
 -- the bits of f, the first 32 of them complemented
 unfoldable pub opened : (ℕ → ℕ) → ℕ → ℕ
@@ -45,4 +45,4 @@ ones = 2 ^ width - 1
 
 -- the CRC of the n bits of f: both complements are wanted. Its digit j from the top is sent as bit j
 unfoldable pub crcOf : ℕ → (ℕ → ℕ) → ℕ
-crcOf n f = bitXor ones (remOf (opened f) n)
+crcOf n f = bitXor ones (crcRem (opened f) n)

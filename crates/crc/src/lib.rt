@@ -3,7 +3,7 @@
 ghost use mathlib.Core.Path.{_≡_};
 ghost use Prim.Native.Nat.{_*_, _%_, _<_};
 ghost use lib.ListN.{length};
-ghost use Rattle.crc.specs.Crc.{width, poly, shift, step, shiftN};
+ghost use Rattle.crc.specs.Crc.{width, poly, crcShift, crcStep, crcShiftN};
 ghost use Rattle.crc.specs.Steps.{entryOf, entries, byteStep, product, remBy, opening, crcBy};
 
 const POLY: u32 = 0x04C11DB7;
@@ -12,7 +12,7 @@ const ONES: u32 = 0xFFFFFFFF;
 
 // What r·x leaves.
 fn times_x(r: u32) -> u32
-    ensures { λ x. ⌜ x ≡ shift r ⌝ }
+    ensures { λ x. ⌜ x ≡ crcShift r ⌝ }
 {
     (r << 1) ^ ((r >> 31) % 2 * POLY)
 }
@@ -20,14 +20,14 @@ fn times_x(r: u32) -> u32
 // The remainder r takes in one more bit.
 fn take_bit(r: u32, b: u32) -> u32
     requires { ⌜ b < 2 ⌝ }
-    ensures { λ x. ⌜ x ≡ step r b ⌝ }
+    ensures { λ x. ⌜ x ≡ crcStep r b ⌝ }
 {
     times_x(r) ^ (b * POLY)
 }
 
 // The remainder r takes in one more bit, the lowest of b.
 pub fn take(r: u32, b: u8) -> u32
-    ensures { λ x. ⌜ x ≡ step r (b % 2) ⌝ }
+    ensures { λ x. ⌜ x ≡ crcStep r (b % 2) ⌝ }
 {
     take_bit(r, (b % 2) as u32)
 }
@@ -45,7 +45,7 @@ fn multiply(a: u32, b: u32) -> u32
 
 // What x^m leaves. Below x^32 that is x^m itself; from there on it is the square of a lower power, times x where m is odd.
 fn power(m: u64) -> u32
-    ensures { λ x. ⌜ x ≡ shiftN m 1 ⌝ }
+    ensures { λ x. ⌜ x ≡ crcShiftN m 1 ⌝ }
 {
     if m < 32 {
         return 1u32 << m;
@@ -57,7 +57,7 @@ fn power(m: u64) -> u32
 
 // What r·x^m leaves: r followed by m zero bits.
 pub fn shifted(r: u32, m: u64) -> u32
-    ensures { λ x. ⌜ x ≡ shiftN m r ⌝ }
+    ensures { λ x. ⌜ x ≡ crcShiftN m r ⌝ }
 {
     multiply(power(m), r)
 }

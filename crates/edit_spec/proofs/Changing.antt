@@ -7,7 +7,7 @@ use native.Mathlib.Nat.{add-zero}
 use native.Mathlib.Omega.{arith}
 use Rattle.bits.specs.Bits.{digit, bitOf, bitAt, Bits}
 use Rattle.bits.proofs.Packing.{bitOf-at, bitOf-packs}
-use Rattle.crc.specs.Crc.{remOf, shiftN}
+use Rattle.crc.specs.Crc.{crcRem, crcShiftN}
 use Rattle.crc.proofs.Changes.{alone}
 use Rattle.scrambler.specs.Scrambler.{o}
 use Rattle.scrambler.proofs.Rule.{o-lt}
@@ -82,9 +82,9 @@ change-bits b bits f i = omega arith
 
 -- THE CHANGE OF THE CRC: what the block's own changed bits leave, shifted by what follows them
 pub crc-changes : (b : ℕ) (bits : List ℕ) (f : ℕ → ℕ) (m : ℕ) → blockFrom b + (blockBits + m) ≡ infoBits
-    → shiftN m (remOf (λ i. change b bits f (blockFrom b + i)) blockBits) ≡ crcChange b bits f
+    → crcShiftN m (crcRem (λ i. change b bits f (blockFrom b + i)) blockBits) ≡ crcChange b bits f
 unfolding crcChange
 crc-changes b bits f m e =
-    sym (ap (remOf (change b bits f)) (sym e)
+    sym (ap (crcRem (change b bits f)) (sym e)
     ∙ alone (change b bits f) (blockFrom b) blockBits m (λ i l. change-out b bits f i (block-before b i l))
     (λ i l. change-out b bits f (blockFrom b + (blockBits + i)) (block-past b (blockFrom b + (blockBits + i)) (omega arith))))

@@ -11,7 +11,7 @@ use Rattle.answer.specs.Numbers.{outsideSet, wrongLength, spareBit, listedFails
 use Rattle.answer.specs.Rows.{Row, whole, buffers, each, wrong, answerOf}
 use Rattle.answer.specs.Outcomes.{written}
 use Rattle.answer.specs.declared.Answer.{Answer}
-use Rattle.crc.specs.Crc.{remOf}
+use Rattle.crc.specs.Crc.{crcRem}
 use Rattle.hamming.specs.Code.{checksOf}
 use Rattle.sizes.specs.Sizes.{blockBytes, listLength, blocksOf, blockBits, clientBlocks, infoBits, crcBits, mbasFrom, parityFrom, parityBytes, fecBlocks}
 use Rattle.sizes.specs.Sizes.{elementBits, superElements, fecElements, captureLength, words}
@@ -42,7 +42,7 @@ change b bits f = added f (replaced b bits f)
 
 -- "the CRC field changes by the remainder of the changed bits, at their places and times x^32, without complements"
 unfoldable pub crcChange : ℕ → List ℕ → (ℕ → ℕ) → ℕ
-crcChange b bits f = remOf (change b bits f) infoBits
+crcChange b bits f = crcRem (change b bits f) infoBits
 
 unfoldable pub newCrc : ℕ → List ℕ → (ℕ → ℕ) → ℕ → ℕ
 newCrc b bits f j = (f (infoBits + j) + digit crcBits (crcChange b bits f) j) % 2

@@ -26,20 +26,20 @@ abbrev pub roomSeed : ℕ → ℕ
 roomSeed n = 100 + n % 9
 
 -- a room holds the information of n super frames and, behind it, their parity
-abbrev pub infoIn : ℕ → ℕ
-infoIn n = upTo mostFrames infoLength n
+abbrev pub infoRoom : ℕ → ℕ
+infoRoom n = upTo mostFrames infoLength n
 
-abbrev pub parityIn : ℕ → ℕ
-parityIn n = upTo mostFrames parityLength n
+abbrev pub parityRoom : ℕ → ℕ
+parityRoom n = upTo mostFrames parityLength n
 
 abbrev pub tooShort : ℕ → List ℕ → Bool
-tooShort n room = ltb (length room) (infoIn n + parityIn n)
+tooShort n room = ltb (length room) (infoRoom n + parityRoom n)
 
 abbrev pub roomInfo : ℕ → List ℕ → List ℕ
-roomInfo n room = take (infoIn n) room
+roomInfo n room = take (infoRoom n) room
 
 abbrev pub roomParity : ℕ → List ℕ → List ℕ
-roomParity n room = take (parityIn n) (drop (infoIn n) room)
+roomParity n room = take (parityRoom n) (drop (infoRoom n) room)
 
 -- what coding it answers, and what the capture then holds
 unfoldable pub roomAnswer : ℕ → List ℕ → List ℕ → Answer

@@ -5,13 +5,13 @@ use native.Mathlib.Omega.{arith}
 use borrow.Author.Needs.{needs}
 use Rattle.bits.specs.Bits.{digit}
 use Rattle.crc.specs.Remainder.{remFrom}
-use Rattle.crc.specs.Crc.{remOf}
+use Rattle.crc.specs.Crc.{crcRem}
 use Rattle.crc.proofs.Changes.{rem-more}
 use Rattle.crc.proofs.entry.Statement.{statement}
 use Rattle.crc.proofs.entry.Tie as tie
 
 abbrev Inv-loop : tie.InvT-loop
-Inv-loop b r₀ j₀ r j = (j ≤ 8) × (r ≡ remOf (digit 8 b) j)
+Inv-loop b r₀ j₀ r j = (j ≤ 8) × (r ≡ crcRem (digit 8 b) j)
 
 abbrev μ-loop : tie.MeasureT-loop
 μ-loop b r₀ j₀ r j = 8 - j

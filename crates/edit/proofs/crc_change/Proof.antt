@@ -6,7 +6,7 @@ use native.Mathlib.Nat.{mod-eq-of-lt}
 use native.Mathlib.Omega.{arith}
 use denote.Ref.{now}
 use Rattle.crc.specs.Remainder.{remFrom}
-use Rattle.crc.specs.Crc.{step, remOf, shiftN}
+use Rattle.crc.specs.Crc.{crcStep, crcRem, crcShiftN}
 use Rattle.crc.proofs.Changes.{rem-more}
 use Rattle.line_order.specs.Order.{wordIn}
 use Rattle.line.specs.Words.{fecIn}
@@ -22,7 +22,7 @@ abbrev changes : ℕ → List ℕ → List ℕ → ℕ → ℕ
 changes b bits capture i = change b bits (fecIn (wordIn capture) (fecOf b)) (blockFrom b + i)
 
 abbrev Inv-loop : tie.InvT-loop
-Inv-loop b bits capture scr r₀ j₀ r j = (j ≤ blockBits) × (r ≡ remOf (changes b bits capture) j)
+Inv-loop b bits capture scr r₀ j₀ r j = (j ≤ blockBits) × (r ≡ crcRem (changes b bits capture) j)
 
 abbrev μ-loop : tie.MeasureT-loop
 μ-loop b bits capture scr r₀ j₀ r j = blockBits - j
@@ -53,7 +53,7 @@ loop-again c =
     let small : x .result < 2 = rw (x .ensures) (change-bits (a .b) (now (a .bits)) (fecIn (wordIn (now (a .capture))) (fecOf (a .b)))
     (blockFrom (a .b) + h .j)) in (
       omega arith,
-      rem-more (changes (a .b) (now (a .bits)) (now (a .capture))) (h .j) (h .inv .1) (x .ensures) (c .take .ensures ∙ ap (step (h .r)) (mod-eq-of-lt small)),
+      rem-more (changes (a .b) (now (a .bits)) (now (a .capture))) (h .j) (h .inv .1) (x .ensures) (c .take .ensures ∙ ap (crcStep (h .r)) (mod-eq-of-lt small)),
     )
 
 mul-shifted : tie.Need-mul-shifted Inv-loop μ-loop
@@ -71,7 +71,7 @@ returns c =
     let a = c .before .before .before .before .before .args in
     let e : h .j ≡ blockBits = omega (arith, h .inv .0, c .before .loop-test .left) in
     c .shifted .ensures
-    ∙ ap (shiftN (244407 - blockBits * (a .b % clientBlocks))) (h .inv .1 ∙ ap (remOf (changes (a .b) (now (a .bits)) (now (a .capture)))) e)
+    ∙ ap (crcShiftN (244407 - blockBits * (a .b % clientBlocks))) (h .inv .1 ∙ ap (crcRem (changes (a .b) (now (a .bits)) (now (a .capture)))) e)
     ∙ crc-changes (a .b) (now (a .bits)) (fecIn (wordIn (now (a .capture))) (fecOf (a .b))) (244407 - blockBits * (a .b % clientBlocks)) (omega arith)
 
 pub crc-change-spec : {M : Type 1} → statement M
