@@ -1,7 +1,6 @@
 // The edges of document 01, section "Both sides of each edge", and the published vectors of the documents, with what was answered; then captures and windows
-// from many seeds.
+// from many seeds. The edges of captures are run by test_captures.
 mod captures;
-mod frames;
 mod mapped;
 mod places;
 mod published;
@@ -10,7 +9,6 @@ mod starred;
 fn main() {
     starred::cases();
     places::cases();
-    frames::cases();
     published::vectors();
     captures::vectors();
     mapped::vectors();

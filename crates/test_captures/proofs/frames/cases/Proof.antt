@@ -1,8 +1,8 @@
--- `test_edges::frames::cases` ends. Assumes nothing.
+-- `test_captures::frames::cases` ends. Assumes nothing.
 use Prim.Native.Nat.{_-_, _≤_}
 use borrow.Author.Needs.{needs}
-use Rattle.test_edges.proofs.frames.cases.Statement.{statement}
-use Rattle.test_edges.proofs.frames.cases.Tie as tie
+use Rattle.test_captures.proofs.frames.cases.Statement.{statement}
+use Rattle.test_captures.proofs.frames.cases.Tie as tie
 
 abbrev Inv-loop : tie.InvT-loop
 Inv-loop m₀ m = m ≤ 9

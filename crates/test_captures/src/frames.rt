@@ -58,7 +58,7 @@ fn code_from(n: u64, m: u64, room: &[u8], capture: &mut [u8])
 // With the information and the parity of m super frames, one made behind the other.
 fn code(n: u64, m: u64, capture: &mut [u8]) {
     let mut room = buffer_sizes::large_space();
-    test_data::fill(test_data::start(100 + n % 10), &mut room);
+    test_input::fill(100 + n % 10, &mut room);
     code_from(n, m, &room, capture);
 }
 
