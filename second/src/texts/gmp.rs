@@ -35,6 +35,20 @@ fn count_of_line(input: &[u8]) -> Answer {
     }
 }
 
+/// The stuff runs of a count, each with its first and its last place.
+pub fn stuff_runs(c: u64) -> String {
+    let mut text = String::new();
+    let mut first = 1;
+    while first <= gmp::PLACES {
+        let (_, kind, last) = gmp::run_at(c, first);
+        if kind == Kind::Stuff {
+            text += &format!(" {}-{}", first, last);
+        }
+        first = last + 1;
+    }
+    text
+}
+
 pub fn gmp_lines() -> String {
     let mut text = String::new();
     let lines: [(&str, &[u8]); 12] = [
@@ -59,16 +73,8 @@ pub fn gmp_lines() -> String {
 
     // Document 001, Table 7, upwards: the stuff runs of each count.
     for c in 10_214..=gmp::PLACES {
-        text += &format!("Cm {} runs {} stuff", c, gmp::count_runs(c, 1).count);
-        let mut first = 1;
-        while first <= gmp::PLACES {
-            let (_, kind, last) = gmp::run_at(c, first);
-            if kind == Kind::Stuff {
-                text += &format!(" {}-{}", first, last);
-            }
-            first = last + 1;
-        }
-        text += "\n";
+        let runs = gmp::count_runs(c, 1).count;
+        text += &format!("Cm {} runs {} stuff{}\n", c, runs, stuff_runs(c));
     }
 
     let most = u64::MAX;

@@ -20,7 +20,7 @@ pub use coded::{coded, coded_capture, Coded};
 pub use damage::{flip, put_nonzero, turn, turn_in_block};
 pub use edges::edges;
 pub use edits::{edit_client, edit_parity, edited_input, edits, never_coded};
-pub use gmp::{gmp_lines, places, table7};
+pub use gmp::{gmp_lines, places, stuff_runs, table7};
 pub use parts::parts;
 pub use readings::readings;
 pub use vectors::vectors;

@@ -1,11 +1,11 @@
 //! Published vectors, and captures and windows from many seeds: `vectors`.
 
-use super::{both_digests, flip, shown, TABLE_7_COUNTS};
+use super::{both_digests, flip, shown, stuff_runs, TABLE_7_COUNTS};
 use crate::bits::{bits_of_bytes, bytes_of_bits, number_of_bits};
 use crate::capture;
 use crate::fec;
 use crate::generator::{digest, digest_of_numbers, hex, Generator};
-use crate::gmp::{self, Kind};
+use crate::gmp;
 use crate::interleaver;
 use crate::super_frame;
 use crate::symbols;
@@ -28,20 +28,6 @@ fn published_vectors() -> String {
             text += &format!(" {}", level);
         }
         text += "\n";
-    }
-    text
-}
-
-/// The stuff runs of a count, each with its first and its last place.
-fn stuff_runs(c: u64) -> String {
-    let mut text = String::new();
-    let mut first = 1;
-    while first <= gmp::PLACES {
-        let (_, kind, last) = gmp::run_at(c, first);
-        if kind == Kind::Stuff {
-            text += &format!(" {}-{}", first, last);
-        }
-        first = last + 1;
     }
     text
 }
