@@ -15,49 +15,71 @@ mod texts;
 
 use std::io::{Read, Write};
 
-const USAGE: &str = "usage: second NAME\n\
-    NAME is one of: gmp_runs [LINE], table7, gmp_lines, hamming_words, coded, readings, edits, window_cases,\n\
-    places, parts, edges, capture_edges, vectors, zr, selftest. gmp_runs without LINE reads standard input.\n";
+type Piece = fn() -> String;
+
+/// Each NAME and the pieces of its text, one behind the other with nothing between them.
+const NAMES: &[(&str, &[Piece])] = &[
+    // The product's programs.
+    ("gmp_runs", &[gmp_runs]),
+    ("test_gmp", &[texts::gmp_lines, texts::window_cases]),
+    ("test_words", &[texts::hamming_words]),
+    (
+        "test_captures",
+        &[texts::coded, texts::readings, texts::edits, texts::parts],
+    ),
+    ("test_edges", &[texts::edges, texts::capture_edges, texts::vectors]),
+    ("zr", &[texts::zr]),
+    // Texts that no program prints.
+    ("table7", &[texts::table7]),
+    ("places", &[texts::places]),
+    ("selftest", &[selftest::run_all]),
+    // The pieces alone: they show where two texts part.
+    ("gmp_lines", &[texts::gmp_lines]),
+    ("window_cases", &[texts::window_cases]),
+    ("hamming_words", &[texts::hamming_words]),
+    ("coded", &[texts::coded]),
+    ("readings", &[texts::readings]),
+    ("edits", &[texts::edits]),
+    ("parts", &[texts::parts]),
+    ("edges", &[texts::edges]),
+    ("capture_edges", &[texts::capture_edges]),
+    ("vectors", &[texts::vectors]),
+];
 
 fn main() {
-    let arguments: Vec<std::ffi::OsString> = std::env::args_os().collect();
-    let name = if arguments.len() > 1 {
-        arguments[1].to_string_lossy().to_string()
-    } else {
-        String::new()
-    };
-    let text = match name.as_str() {
-        "gmp_runs" => {
-            let mut input = Vec::new();
-            if arguments.len() > 2 {
-                input.extend_from_slice(arguments[2].as_encoded_bytes());
-            } else {
-                std::io::stdin()
-                    .read_to_end(&mut input)
-                    .expect("standard input can be read");
-            }
-            gmp::run_program(&input)
+    let name = std::env::args_os().nth(1).unwrap_or_default();
+    match NAMES.iter().find(|(known, _)| name == *known) {
+        Some((_, pieces)) => {
+            let text: String = pieces.iter().map(|piece| piece()).collect();
+            std::io::stdout()
+                .write_all(text.as_bytes())
+                .expect("standard output can be written");
         }
-        "table7" => texts::table7(),
-        "hamming_words" => texts::hamming_words(),
-        "gmp_lines" => texts::gmp_lines(),
-        "coded" => texts::coded(),
-        "readings" => texts::readings(),
-        "edits" => texts::edits(),
-        "window_cases" => texts::window_cases(),
-        "places" => texts::places(),
-        "parts" => texts::parts(),
-        "zr" => texts::zr(),
-        "edges" => texts::edges(),
-        "capture_edges" => texts::capture_edges(),
-        "vectors" => texts::vectors(),
-        "selftest" => selftest::run_all(),
-        _ => {
-            eprint!("{}", USAGE);
+        None => {
+            eprint!("{}", usage());
             std::process::exit(2);
         }
-    };
-    std::io::stdout()
-        .write_all(text.as_bytes())
-        .expect("standard output can be written");
+    }
+}
+
+fn usage() -> String {
+    let mut text = "usage: second NAME\n       second gmp_runs LINE\nNAME is one of:\n".to_string();
+    for (name, _) in NAMES {
+        text += &format!("  {}\n", name);
+    }
+    text + "gmp_runs without LINE reads standard input.\n"
+}
+
+/// The run listing for LINE or, without one, for standard input.
+fn gmp_runs() -> String {
+    let mut input = Vec::new();
+    match std::env::args_os().nth(2) {
+        Some(line) => input.extend_from_slice(line.as_encoded_bytes()),
+        None => {
+            std::io::stdin()
+                .read_to_end(&mut input)
+                .expect("standard input can be read");
+        }
+    }
+    gmp::run_program(&input)
 }

@@ -1,0 +1,84 @@
+//! Published vectors, and cross-checks of one way of computing a thing against another.
+//! The same tests run with `cargo test` and with `second selftest`.
+
+mod basics;
+mod capture;
+mod edits;
+mod fec;
+mod gmp;
+mod hamming;
+mod interleaver;
+mod super_frame;
+mod symbols;
+mod texts;
+
+macro_rules! tests {
+    ($($module:ident: $($name:ident),*;)*) => {
+        /// Runs every test. A failing test stops the program.
+        pub fn run_all() -> String {
+            let mut text = String::new();
+            $($(
+                $module::$name();
+                text += concat!("ok ", stringify!($name), "\n");
+            )*)*
+            text
+        }
+
+        #[cfg(test)]
+        mod tests {
+            $($(
+                #[test]
+                fn $name() {
+                    super::$module::$name();
+                }
+            )*)*
+        }
+    };
+}
+
+// Each test under the file it stands in.
+tests!(
+    basics:
+        bits_there_and_back,
+        generator_and_digest,
+        lengths_agree;
+    gmp:
+        table_7_as_printed,
+        listing_of_10216,
+        run_program_refusals,
+        data_places_up_to_j,
+        run_requests,
+        window_cases,
+        window_round_trips;
+    fec:
+        crc_published_values,
+        crc_is_zero_over_block_and_field,
+        mbas_counts_and_wraps;
+    super_frame:
+        scrambler_values;
+    interleaver:
+        delay_lines,
+        filler_slots,
+        mixed_words_at_borders;
+    hamming:
+        column_order_as_printed,
+        matrix_properties,
+        published_words,
+        encoder_matrix_of_10_5,
+        repairs;
+    symbols:
+        table_12_as_printed,
+        byte_places;
+    capture:
+        information_parts,
+        coding_and_reading,
+        coding_bit_by_bit,
+        reading_refusals;
+    edits:
+        listed_word_counts,
+        edits_equal_coding_afresh,
+        edit_of_never_coded,
+        edit_refusals;
+    texts:
+        refused_lines_keep_their_buffers;
+);
