@@ -25,9 +25,10 @@ const NAMES: &[(&str, &[Piece])] = &[
     ("test_words", &[texts::hamming_words]),
     (
         "test_captures",
-        &[texts::coded, texts::readings, texts::edits, texts::parts],
+        &[texts::coded, texts::readings, texts::parts, texts::capture_edges],
     ),
-    ("test_edges", &[texts::edges, texts::capture_edges, texts::vectors]),
+    ("test_edits", &[texts::edits]),
+    ("test_edges", &[texts::edges, texts::vectors]),
     ("zr", &[texts::zr]),
     // Texts that no program prints.
     ("table7", &[texts::table7]),

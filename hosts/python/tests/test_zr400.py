@@ -1,4 +1,4 @@
-"""The Python module against the second program's texts (hosts/vectors, made anew by second/outputs).
+"""The Python module against the second program's texts, which the proved programs are held to as well (second/outputs makes them).
 
     python3 -m unittest discover -s hosts/python/tests
 """
@@ -17,7 +17,7 @@ sys.path.insert(0, os.path.dirname(HERE))
 
 import zr400  # noqa: E402
 
-VECTORS = os.path.join(HERE, "..", "..", "vectors")
+CRATES = os.path.join(HERE, "..", "..", "..", "crates")
 
 try:
     import numpy
@@ -63,8 +63,8 @@ def digest_of_list(listed):
     return digest(b"".join(number.to_bytes(8, "big") for number in whole))
 
 
-def lines_of(name):
-    with open(os.path.join(VECTORS, name + ".txt"), encoding="ascii") as text:
+def lines_of(program):
+    with open(os.path.join(CRATES, program, "stdout"), encoding="ascii") as text:
         return set(text.read().splitlines())
 
 
@@ -96,14 +96,14 @@ def coded(n):
 
 class Vectors(unittest.TestCase):
     def test_coded(self):
-        lines = lines_of("coded")
+        lines = lines_of("test_captures")
         for n in (1, 2):
             capture = coded(n)[2]
             line = f"N {n} m0 {7 * n}: number 0 place 0 count {zr400.words(n)} digest {digest(capture)}"
             self.assertIn(line, lines)
 
     def test_coding_refused(self):
-        lines = lines_of("coded")
+        lines = lines_of("test_captures")
         information, parity, _ = coded(1)
         full = zr400.capture_length(1)
         for label, n, m0, i, p, length in (
@@ -130,7 +130,7 @@ class Vectors(unittest.TestCase):
         self.assertIn(f"{label}: {answer} information {digest(information)} parity {digest(parity)}", lines)
 
     def test_readings(self):
-        lines = lines_of("readings")
+        lines = lines_of("test_captures")
         capture = coded(1)[2]
         last = zr400.words(1) - 1
         self.reading("N 1 undamaged", 1, 7, capture, lines)
@@ -150,7 +150,7 @@ class Vectors(unittest.TestCase):
         self.reading("capture one byte short", 1, 7, capture[:-1], lines)
 
     def test_edits(self):
-        lines = lines_of("edits")
+        lines = lines_of("test_edits")
         for n, block in ((1, 0), (1, 6), (1, 951), (1, 952), (1, 4759), (2, 4759), (2, 4760)):
             capture = bytearray(coded(n)[2])
             bits = seeded(300 + block, 33)
@@ -161,7 +161,7 @@ class Vectors(unittest.TestCase):
             self.assertIn(f"{label}: number 0 place 0 count {len(listed)} {left}", lines)
 
     def test_edits_refused(self):
-        lines = lines_of("edits")
+        lines = lines_of("test_edits")
         bits = seeded(306, 33)
         bits[32] &= 0x80
         spare = bytearray(bits)
@@ -225,7 +225,7 @@ class Vectors(unittest.TestCase):
                 self.assertEqual(answer, asked[4])
 
     def test_parts(self):
-        lines = lines_of("parts")
+        lines = lines_of("test_captures")
         info = coded(1)[0]
         for label, n, t, lent in (
             ("N 1 t 0", 1, 0, info),
