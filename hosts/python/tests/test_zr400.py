@@ -17,7 +17,7 @@ sys.path.insert(0, os.path.dirname(HERE))
 
 import zr400  # noqa: E402
 
-CRATES = os.path.join(HERE, "..", "..", "..", "crates")
+REPOSITORY = os.path.join(HERE, "..", "..", "..")
 
 try:
     import numpy
@@ -63,9 +63,13 @@ def digest_of_list(listed):
     return digest(b"".join(number.to_bytes(8, "big") for number in whole))
 
 
+def text_of(*path):
+    with open(os.path.join(REPOSITORY, *path), encoding="ascii") as text:
+        return text.read().splitlines()
+
+
 def lines_of(program):
-    with open(os.path.join(CRATES, program, "stdout"), encoding="ascii") as text:
-        return set(text.read().splitlines())
+    return set(text_of("crates", program, "stdout"))
 
 
 def refusal(call):
@@ -188,8 +192,8 @@ class Vectors(unittest.TestCase):
             self.assertIn(f"{label}: {answer} capture {digest(capture)} list {digest_of_list([])}", lines)
 
     def test_windows(self):
-        with open(os.path.join(VECTORS, "window_cases.txt"), encoding="ascii") as text:
-            lines = text.read().splitlines()
+        lines = text_of("crates", "test_gmp", "stdout")
+        lines = lines[[line.startswith("case 1: ") for line in lines].index(True) :]
         for at in range(0, len(lines), 3):
             case, c, f, n, groups_length, window_length, low = map(int, re.findall(r"\d+", lines[at]))
             if window_length > 100000:
@@ -209,9 +213,10 @@ class Vectors(unittest.TestCase):
             self.assertEqual(f"unmap: {answer} groups {digest(groups)}", lines[at + 2])
 
     def test_places(self):
-        for line in lines_of("places"):
+        for line in text_of("hosts", "vectors", "places.txt"):
             asked = re.fullmatch(r"C (\d+) place (\d+) (run|runs): (.*)", line)
             if not asked:
+                self.assertRegex(line, r"^C \d+ all places: ")  # a digest of 10,220 answers, which hosts/check makes
                 continue
             c, j = int(asked[1]), int(asked[2])
             if asked[3] == "run":
