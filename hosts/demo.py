@@ -1,4 +1,4 @@
-"""The pieces of ./demo that are no work of the coder: made-up data, turned bits, a picture of the words that changed.
+"""The pieces of ./demo that are no work of the coder: made-up data, flipped bits, a picture of the words that changed.
 
 A word's byte k stands at capture byte 128 * (w // 8) + 8 * k + w % 8.
 """
@@ -39,11 +39,11 @@ def make(info, parity):
     save(parity, made_up(1, 2 * 10240))
 
 
-def flip_every(capture, damaged):
+def flip_every(capture, flipped):
     data = load(capture)
     for w in range(len(data) // 16):
         flip(data, w, (37 * w + 11) % 128)
-    save(damaged, data)
+    save(flipped, data)
 
 
 def flip_two(w, capture, broken):
