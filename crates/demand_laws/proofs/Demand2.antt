@@ -27,7 +27,7 @@ use Rattle.hamming.proofs.Flipping.{flip-long}
 use Rattle.hamming.proofs.Repairs.{none-kept, one-seen, one-repaired}
 use Rattle.sizes.specs.Sizes.{infoBits, crcBits, mbasBits, mbasFrom, parityFrom, fecBits, fecBlocks, padFrom, padBits, infoLength, parityLength}
 use Rattle.sizes.specs.Sizes.{captureLength, words, wordBytes, wordBits}
-use Rattle.line.specs.Captures.{superAllowed}
+use Rattle.line.proofs.CaptureLaws.{in-frames}
 use Rattle.line.specs.Fec.{mbasAllowed, mbasOf, infoBit, blockCrc, fecBit}
 use Rattle.line.specs.Frames.{superOf, elementOf, infoOf, parityOf}
 use Rattle.line.specs.Slots.{holds, slotBit}
@@ -210,8 +210,7 @@ module _ (N m0 : ℕ) (info par : List ℕ) (flips : Flips) where
       pub early-passed-by : (m1 : ℕ) → mbasAllowed m1 ≡ true → Passed (readEarlyRows N m1 (length cap) (length info₀) (length par₀))
       unfolding readEarlyRows Passed RowPassed NoFault
       early-passed-by m1 e =
-          let inside : not (superAllowed N && mbasAllowed m1) ≡ false = rw (input .frames, e) in
-          (inside, ((length-right cap-long, (length-right info₀-long, (length-right par₀-long, tt))), tt))
+          (in-frames N (input .frames) e, ((length-right cap-long, (length-right info₀-long, (length-right par₀-long, tt))), tt))
 
       answers-done : readAnswer N m0 cap info₀ par₀ ≡ done (howMany N flips)
       unfolding readAnswer

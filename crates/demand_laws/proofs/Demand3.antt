@@ -14,7 +14,7 @@ use Rattle.answer.proofs.Turns.{early-passed, all-passed, length-right, none-th
 use Rattle.answer.proofs.Meets.{written-done}
 use Rattle.hamming.specs.Code.{checksOf}
 use Rattle.sizes.specs.Sizes.{words, blocksOf}
-use Rattle.line.specs.Captures.{superAllowed}
+use Rattle.line.proofs.CaptureLaws.{in-frames}
 use Rattle.line_order.specs.Order.{wordIn}
 use Rattle.code.specs.Code.{captureOf}
 use Rattle.code.proofs.Coding.{capture-long}
@@ -60,9 +60,8 @@ module _ (N m0 b : ℕ) (bits parity info par list : List ℕ) where
     first-passed : Passed (editEarlyRows N b (length bits) (length parity) (length cap) (length list) (clientSpareSet bits))
     unfolding editEarlyRows Passed RowPassed NoFault
     first-passed =
-        let inside : not (superAllowed N && ltb b (blocksOf N)) ≡ false = rw (input .frames, lt-ltb b (blocksOf N) (input .block)) in
         let cap-long = length-right (capture-long N m0 info par) in (
-          inside,
+          in-frames N (input .frames) (lt-ltb b (blocksOf N) (input .block)),
           (
             (length-right (input .bits-long), (length-right (input .parity-long), (cap-long, (length-right (input .list-long), tt)))),
             ((input .spare, tt), tt),

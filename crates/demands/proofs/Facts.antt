@@ -1,6 +1,6 @@
 -- From the promises of the coder to the demands. Assumes nothing.
 use Prim.Native.Nat.{ℕ}
-use mathlib.Core.Bool.{false, not, _&&_}
+use mathlib.Core.Bool.{false, _&&_}
 use mathlib.Core.Path.{_≡_, sym, ap, _∙_}
 use mathlib.Core.List.{List, [], _∷_, _++_}
 use borrow.Author.Tests.{not-false}
@@ -17,6 +17,7 @@ use Rattle.answer.proofs.Turns.{in-turn, turn-late, all-passed, granted-passed,
 use Rattle.answer.proofs.Meets.{written-done, written-refused, stops-there, goes-further}
 use Rattle.sizes.specs.Sizes.{words, infoLength, parityLength, captureLength}
 use Rattle.line.specs.Captures.{superAllowed}
+use Rattle.line.proofs.CaptureLaws.{in-frames}
 use Rattle.line.specs.Fec.{mbasAllowed}
 use Rattle.code.specs.Code.{captureOf, codeRows, codeAnswer, codeLeaves}
 use Rattle.code.proofs.Judging.{code-rise}
@@ -42,9 +43,8 @@ module _ (N m0 : ℕ) (info par flips info₀ par₀ : List ℕ) (input : Input 
   answers-any : readAnswer N m0 cap info₀ par₀ ≡ flippedAnswer N flips info₀ par₀
   unfolding readAnswer readEarlyRows flippedAnswer inTurn rowThen faultsThen
   answers-any =
-      let inside : not (superAllowed N && mbasAllowed m0) ≡ false = rw (input .frames, input .number) in
       turn-late (readEarlyRows N m0 (length cap) (length info₀) (length par₀)) (readLateRows N m0 cap) (count (isSeen cap) (words N))
-      ∙ rw (inside, length-right (cap-long N m0 info par (flipsOf flips)), late-done N m0 info par (flipsOf flips))
+      ∙ rw (in-frames N (input .frames) (input .number), length-right (cap-long N m0 info par (flipsOf flips)), late-done N m0 info par (flipsOf flips))
       (sym (in-turn (buffers wrongLength (false ∷ wrong (infoLength N) (length info₀) ∷ wrong (parityLength N) (length par₀) ∷ []) ∷ [])
       (howMany N (flipsOf flips))))
 
@@ -153,8 +153,7 @@ module _ (N m0 : ℕ) (info par cap : List ℕ) (allowed : Input N m0 info par) 
   code-passed : Passed (codeRows N m0 (length info) (length par) (length cap))
   unfolding codeRows Passed RowPassed NoFault
   code-passed =
-      let inside : not (superAllowed N && mbasAllowed m0) ≡ false = rw (allowed .frames, allowed .number) in
-      (inside, ((length-right (allowed .info-long), (length-right (allowed .parity-long), (length-right long, tt))), tt))
+      (in-frames N (allowed .frames) (allowed .number), ((length-right (allowed .info-long), (length-right (allowed .parity-long), (length-right long, tt))), tt))
 
   code-done : coding .number ≡ allDone
   unfolding codeAnswer

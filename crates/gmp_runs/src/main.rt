@@ -1,4 +1,5 @@
 // Reads a count from the first line of standard input and lists its runs: document 01, "GMP places".
+use answer::Answer;
 use gmp_count::Partial;
 use libc::STDIN_FILENO;
 
@@ -38,7 +39,7 @@ fn read_first() -> Partial {
 }
 
 fn main() {
-    let answer = gmp_count::so_far(read_first());
+    let answer: Answer = gmp_count::so_far(read_first());
     if answer.number != 0 {
         gmp_print::print_named(b"refused ", answer.number);
         return;

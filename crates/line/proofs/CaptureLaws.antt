@@ -23,6 +23,10 @@ super-frames N e = record {
 pub frames-in : (N : ℕ) (b : Bool) {asked : Bool} → asked ≡ superAllowed N && b → not asked ≡ false → SuperFrames N
 frames-in N b e left = super-frames N (and-left (superAllowed N) b (sym e ∙ not-false _ left))
 
+-- the other way: where both are in their sets it is not refused
+pub in-frames : (N : ℕ) {b : Bool} → superAllowed N ≡ true → b ≡ true → not (superAllowed N && b) ≡ false
+in-frames N p q = rw (p, q)
+
 -- every number from 1 to 8 is allowed
 pub all-frames : (N : ℕ) → 1 ≤ N → N ≤ mostFrames → superAllowed N ≡ true
 unfolding superAllowed
