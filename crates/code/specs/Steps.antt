@@ -9,8 +9,7 @@ use Rattle.bits.specs.Bits.{digit, pack}
 use Rattle.hamming_matrix.specs.Steps.{tailTable}
 use Rattle.hamming_table.specs.Steps.{byteTable}
 use Rattle.scrambler.specs.Scrambler.{o}
-use Rattle.sizes.specs.Sizes.{crcBits, mbasBits, fecBlocks, elementBits, superElements, superBytes, infoLength, parityLength, captureLength}
-use Rattle.sizes.specs.Sizes.{mostFrames}
+use Rattle.sizes.specs.Sizes.{crcBits, mbasBits, fecBlocks, elementBits, superElements, superBytes, infoLength, parityLength, captureLength, mostFrames}
 use Rattle.line.specs.Fec.{blockCrc}
 use Rattle.line.specs.Frames.{superOf}
 

@@ -8,10 +8,9 @@ use native.Mathlib.Omega.{arith}
 use lib.Bits.{bitXor, xor-self, xor-comm, xor-lt, xor-shr, xor-shifted}
 use lib.Pow.{pow-pos, split, high}
 use Rattle.bits.specs.Bits.{num, digit, added, Bits}
-use Rattle.bits.proofs.Xor.{xor-none}
+use Rattle.bits.proofs.Xor.{xor-none, xor-assoc, xor-swap, times-xor, double}
 use Rattle.prelude.proofs.Common.{bit-times}
 use Rattle.bits.proofs.Numbers.{digit-lt}
-use Rattle.bits.proofs.Xor.{xor-assoc, xor-swap, times-xor, double}
 use Rattle.crc.specs.Remainder.{shift, step, remFrom, remOf}
 use Rattle.crc.specs.Division.{generator, times, quotient}
 use Rattle.crc.proofs.Linear.{top-digit, rem-lt}

@@ -25,7 +25,7 @@ use Rattle.read_spec.specs.Read.{repaired, isBeyond, isFilled, isSeen, mbasDiff
 use Rattle.demand_laws.specs.Demand2.{Input, Flips, isFlipped, flipIf, flipped, howMany, ReadsBack}
 use Rattle.demand_laws.proofs.Demand2.{demand-2, no-4, no-5, mbas-read, early-passed-by}
 
--- no bit isFlipped
+-- no bit flipped
 abbrev pub noFlips : Flips
 noFlips w = wordBits
 

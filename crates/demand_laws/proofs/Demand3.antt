@@ -4,7 +4,7 @@ use mathlib.Core.Bool.{Bool, true, false, not, _&&_}
 use mathlib.Core.Path.{_≡_, refl, sym, ap, _∙_}
 use mathlib.Core.List.{List, _++_}
 use borrow.Author.Tests.{lt-ltb, eq-eqb}
-use lib.Dec.{ltb, eqb}
+use lib.Dec.{eqb}
 use lib.ListN.{length, getD, drop}
 use Rattle.prelude.specs.Loops.{count}
 use Rattle.answer.specs.Rows.{done, answerOf}

@@ -14,10 +14,9 @@ use lib.ListN.{length, getD}
 use Rattle.prelude.specs.Lists.{tabulate}
 use Rattle.bits.specs.Bits.{digit}
 use Rattle.bits.proofs.Numbers.{digit-lt}
-use Rattle.bits.proofs.Xor.{xor-none}
+use Rattle.bits.proofs.Xor.{xor-none, digit-xor}
 use Rattle.prelude.proofs.Common.{agree}
 use Rattle.prelude.proofs.Tables.{both, both-left, both-right, each}
-use Rattle.bits.proofs.Xor.{digit-xor}
 use Rattle.sizes.specs.Sizes.{elementBits, wordBits, checkBits, checkValues}
 use Rattle.hamming_matrix.specs.Columns.{columns, columnOf, placeIn, positionOf}
 use Rattle.hamming_matrix.specs.Sums.{sumTo, columnTaken, tailSum, tailSums, tailOf}

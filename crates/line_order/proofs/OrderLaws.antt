@@ -17,9 +17,8 @@ use Rattle.prelude.proofs.Common.{by-bound}
 use Rattle.prelude.proofs.Lists.{length-tabulate, getD-tabulate, getD-past, tabulate-ext, is-table}
 use Rattle.sizes.specs.Sizes.{wordBytes, groupWords, captureLength, words, groupSize}
 use Rattle.sizes.proofs.Equations.{capture-words}
-use Rattle.line_order.specs.Order.{Order, byteBy, laidBy, symbolBy, wordBy}
+use Rattle.line_order.specs.Order.{Order, byteBy, laidBy, symbolBy, wordBy, symbolPlace, wordAt, symbolAt, lineOrder, laid, wordIn}
 use Rattle.line_order.specs.Steps.{putSymbolBy, putBy, replaceBy, changed, doneTo, putWord, OneToOne}
-use Rattle.line_order.specs.Order.{symbolPlace, wordAt, symbolAt, lineOrder, laid, wordIn}
 
 -- ---- words changed, one or those below k
 

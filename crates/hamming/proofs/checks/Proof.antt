@@ -3,7 +3,6 @@ use Prim.Native.Nat.{_-_}
 use mathlib.Core.Path.{_∙_}
 use borrow.Author.Needs.{needs}
 use Rattle.sizes.specs.Sizes.{wordBytes}
-use Rattle.hamming_matrix.specs.Sums.{columnTaken}
 use Rattle.hamming.proofs.ByBytes.{byteOfSum, checks-bytes}
 use Rattle.hamming_matrix.proofs.Sums.{Summed, summed-none, summed-more, summed-all}
 use Rattle.hamming.proofs.checks.Statement.{statement}

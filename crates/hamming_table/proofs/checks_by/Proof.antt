@@ -2,7 +2,6 @@
 use Prim.Native.Nat.{_-_}
 use borrow.Author.Needs.{needs}
 use Rattle.sizes.specs.Sizes.{wordBytes}
-use Rattle.hamming_matrix.specs.Sums.{columnTaken}
 use Rattle.hamming_table.specs.Steps.{entryAt, sumBy}
 use Rattle.hamming_matrix.proofs.Sums.{Summed, summed-none, summed-more, summed-all}
 use Rattle.hamming_table.proofs.checks_by.Statement.{statement}

@@ -1,5 +1,4 @@
 -- `test_input::code_room` meets its contract: a room that is too short, and one that is coded. Assumes nothing.
-use Prim.Native.Nat.{_+_}
 use mathlib.Core.Path.{refl}
 use denote.Ref.{now}
 use Rattle.test_input.proofs.Rooms.{room-short, room-coded}
