@@ -36,9 +36,9 @@ module _ (N m0 : ℕ) (info par cap : List ℕ) where
   unfolding codeAnswer codeLeaves
   code-demand-1 o = demand-1 rows (words N) (captureOf N m0 info par) cap (code-rise N m0 (length info) (length par) (length cap)) o
 
-  pub granted : {r : Answer} → r ≡ answerOf rows (words N) → r .number ≡ allDone → Granted N info par cap
+  pub code-granted : {r : Answer} → r ≡ answerOf rows (words N) → r .number ≡ allDone → Granted N info par cap
   unfolding codeRows Passed RowPassed NoFault
-  granted e z =
+  code-granted e z =
       let p = passed rows (done (words N)) (code-rise N m0 (length info) (length par) (length cap)) (e ∙ in-turn rows (words N)) z in
       record {
         few = frames-in N (mbasAllowed m0) refl (p .0) .few;

@@ -55,8 +55,8 @@ cut-double x m =
     rw (a, b) (sym (add-mod x x m))
 
 -- the place in the table
-pub place-lt : (w r b : ℕ) → 8 ≤ w → r < 2 ^ w → b < 256 → bitXor (r / 2 ^ (w - 8)) b < 256
-place-lt w r b l h k =
+pub bit-place-lt : (w r b : ℕ) → 8 ≤ w → r < 2 ^ w → b < 256 → bitXor (r / 2 ^ (w - 8)) b < 256
+bit-place-lt w r b l h k =
     let e : w ≡ 8 + (w - 8) = omega arith in
     xor-lt 8 (r / 2 ^ (w - 8)) b (shr-lt 8 (w - 8) (rw e at h)) k
 
@@ -99,7 +99,7 @@ module _ (w p : ℕ) where
       let b = getD s k 0 in
       let i = bitXor (r / 2 ^ (w - 8)) b in
       ap (bitXor (r * 2 ^ 8 % 2 ^ w))
-      (getD-tabulate 0 256 (entryOf w p) i (place-lt w r b l h (hs k))
+      (getD-tabulate 0 256 (entryOf w p) i (bit-place-lt w r b l h (hs k))
       ∙ rem-ext w p 0 (digit 8 i) (added (digit w r) (digit 8 b)) 8
       (λ j m. digit-xor 8 (r / 2 ^ (w - 8)) b j ∙ ap (λ (x : ℕ). (x + digit 8 b j) % 2) (digit-front w 8 r j m l)))
       ∙ sym (fold-in r (digit 8 b) 8 h l (digit-lt 8 b))

@@ -36,15 +36,15 @@ generator-is = refl
 
 -- ---- the laws of Linear.antt that other crates cite, at this generator
 
-pub rem-ext : (r : ℕ) (f g : ℕ → ℕ) (n : ℕ) → ((i : ℕ) → i < n → f i ≡ g i) → remFrom width poly r f n ≡ remFrom width poly r g n
-rem-ext = any.rem-ext width poly
+pub crc-rem-ext : (r : ℕ) (f g : ℕ → ℕ) (n : ℕ) → ((i : ℕ) → i < n → f i ≡ g i) → remFrom width poly r f n ≡ remFrom width poly r g n
+crc-rem-ext = any.rem-ext width poly
 
-pub rem-more : {r b x : ℕ} (f : ℕ → ℕ) (n : ℕ) → r ≡ crcRem f n → b ≡ f n → x ≡ crcStep r b → x ≡ crcRem f (n + 1)
-rem-more = any.rem-more width poly
+pub crc-rem-more : {r b x : ℕ} (f : ℕ → ℕ) (n : ℕ) → r ≡ crcRem f n → b ≡ f n → x ≡ crcStep r b → x ≡ crcRem f (n + 1)
+crc-rem-more = any.rem-more width poly
 
-pub alone : (d : ℕ → ℕ) (n k m : ℕ) → ((i : ℕ) → i < n → d i ≡ 0) → ((i : ℕ) → i < m → d (n + (k + i)) ≡ 0)
+pub crc-alone : (d : ℕ → ℕ) (n k m : ℕ) → ((i : ℕ) → i < n → d i ≡ 0) → ((i : ℕ) → i < m → d (n + (k + i)) ≡ 0)
     → crcRem d (n + (k + m)) ≡ crcShiftN m (crcRem (λ i. d (n + i)) k)
-alone = any.alone width poly
+crc-alone = any.alone width poly
 
 -- ---- the complements
 
@@ -70,7 +70,7 @@ crc-lt n f h = xor-lt 32 ones (crcRem (opened f) n) (ones-lt 32) (any.rem-lt wid
 -- only the n bits count
 pub crc-ext : (n : ℕ) (f g : ℕ → ℕ) → ((i : ℕ) → i < n → f i ≡ g i) → crcOf n f ≡ crcOf n g
 unfolding crcOf opened
-crc-ext n f g h = ap (bitXor ones) (rem-ext 0 (opened f) (opened g) n (λ i l. rw (h i l)))
+crc-ext n f g h = ap (bitXor ones) (crc-rem-ext 0 (opened f) (opened g) n (λ i l. rw (h i l)))
 
 -- a change d of the bits changes the CRC by what d leaves, without complements
 pub crc-change : (n : ℕ) (f g d : ℕ → ℕ) → Bits f → Bits d → ((i : ℕ) → i < n → g i ≡ (f i + d i) % 2)
@@ -78,6 +78,6 @@ pub crc-change : (n : ℕ) (f g d : ℕ → ℕ) → Bits f → Bits d → ((i :
 unfolding crcOf opened
 crc-change n f g d hf hd h =
     ap (bitXor ones)
-    (rem-ext 0 (opened g) (added (opened f) d) n (λ i l. rw (h i l) (cond-sum (ltb i 32) (f i) (d i) (hf i)))
+    (crc-rem-ext 0 (opened g) (added (opened f) d) n (λ i l. rw (h i l) (cond-sum (ltb i 32) (f i) (d i) (hf i)))
     ∙ any.linear width poly (opened f) d n (opened-lt f hf) hd)
     ∙ sym (xor-assoc ones (crcRem (opened f) n) (crcRem d n))

@@ -113,7 +113,7 @@ module _ (w p : ℕ) where
   alone d n k m before behind = zeros-before d n (k + m) before ∙ zeros-behind (λ i. d (n + i)) k m behind
 
   -- CHANGED BITS: a change d of k bits behind n and before m others changes the remainder by what those k bits leave, times x^m
-  pub changed : (f d : ℕ → ℕ) (n k m : ℕ) → Bits f → Bits d → ((i : ℕ) → i < n → d i ≡ 0) → ((i : ℕ) → i < m → d (n + (k + i)) ≡ 0)
+  pub rem-changed : (f d : ℕ → ℕ) (n k m : ℕ) → Bits f → Bits d → ((i : ℕ) → i < n → d i ≡ 0) → ((i : ℕ) → i < m → d (n + (k + i)) ≡ 0)
       → remOf w p (added f d) (n + (k + m)) ≡ bitXor (remOf w p f (n + (k + m))) (shiftN w p m (remOf w p (λ i. d (n + i)) k))
-  changed f d n k m hf hd before behind =
+  rem-changed f d n k m hf hd before behind =
       linear f d (n + (k + m)) hf hd ∙ ap (bitXor (remOf w p f (n + (k + m)))) (alone d n k m before behind)

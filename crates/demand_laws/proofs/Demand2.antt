@@ -183,8 +183,8 @@ module _ (N m0 : ℕ) (info par : List ℕ) (flips : Flips) where
   )
 
   -- none of numbers 4 to 8 applies
-  pub late-done : answerOf (readLateRows N m0 cap) (count (isSeen cap) (words N)) ≡ done (howMany N flips)
-  late-done = all-passed (readLateRows N m0 cap) (count (isSeen cap) (words N)) late-passed ∙ ap done counted
+  pub coded-late-done : answerOf (readLateRows N m0 cap) (count (isSeen cap) (words N)) ≡ done (howMany N flips)
+  coded-late-done = all-passed (readLateRows N m0 cap) (count (isSeen cap) (words N)) late-passed ∙ ap done counted
 
   pub cap-long : length cap ≡ captureLength N
   unfolding flipped
@@ -217,7 +217,7 @@ module _ (N m0 : ℕ) (info par : List ℕ) (flips : Flips) where
       answers-done =
           early-passed (readEarlyRows N m0 (length cap) (length info₀) (length par₀)) (readLateRows N m0 cap) (count (isSeen cap) (words N))
           (early-passed-by m0 (input .number))
-          ∙ late-done
+          ∙ coded-late-done
 
       leaves-input : readLeaves N m0 cap info₀ par₀ ≡ (info, par)
       unfolding readLeaves

@@ -14,7 +14,7 @@ use Rattle.prelude.proofs.Common.{cond-bit, by-bound, clash, or-left}
 use Rattle.prelude.proofs.Lists.{getD-tabulate}
 use Rattle.bits.proofs.Packing.{bitOf-lt, bitOf-packs}
 use Rattle.bits.proofs.Xor.{digit-xor}
-use Rattle.crc.proofs.Changes.{rem-ext, crc-ext, crc-change}
+use Rattle.crc.proofs.Changes.{crc-rem-ext, crc-ext, crc-change}
 use lib.Bits.{bitXor}
 use Rattle.scrambler.specs.Scrambler.{o}
 use Rattle.hamming.proofs.Words.{coded-ext}
@@ -214,7 +214,7 @@ module _ (b : ℕ) (bits parity : List ℕ) (f g : ℕ → ℕ) (same : (i : ℕ
 
   crc-same : crcChange b bits f ≡ crcChange b bits g
   unfolding crcChange
-  crc-same = rem-ext 0 (change b bits f) (change b bits g) infoBits change-same
+  crc-same = crc-rem-ext 0 (change b bits f) (change b bits g) infoBits change-same
 
   pub edited-ext : (i : ℕ) → i < fecBits → editedBits b bits parity f i ≡ editedBits b bits parity g i
   unfolding editedBits keptMbas newCrc

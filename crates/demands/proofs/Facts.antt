@@ -26,7 +26,7 @@ use Rattle.read_spec.specs.Read.{isSeen, readEarlyRows, readLateRows, readAnswe
 use Rattle.edit_spec.specs.Edit.{listed, listOf, clientSpareSet, editEarlyRows, editLateRows, editAnswer, editLeaves}
 use Rattle.demand_laws.specs.Demand2.{Input, flipped, howMany, ReadsBack}
 use Rattle.demand_laws.specs.Demand3.{newInfo, newParity, EditInput, EditsAsCoded}
-use Rattle.demand_laws.proofs.Demand2.{cap-long, late-done, given-input, demand-2}
+use Rattle.demand_laws.proofs.Demand2.{cap-long, coded-late-done, given-input, demand-2}
 use Rattle.demand_laws.proofs.Demand3.{later-done, edited-afresh, demand-3}
 use Rattle.demands.specs.Demands.{flipsOf, flippedAnswer, codeReadAnswer, codeReadLeaves, CodesAndReads}
 use Rattle.demands.specs.Demands.{codedEditAnswer, codeEditAnswer, codeEditLeaves, CodesAndEdits}
@@ -44,7 +44,7 @@ module _ (N m0 : ℕ) (info par flips info₀ par₀ : List ℕ) (input : Input 
   unfolding readAnswer readEarlyRows flippedAnswer inTurn rowThen faultsThen
   answers-any =
       turn-late (readEarlyRows N m0 (length cap) (length info₀) (length par₀)) (readLateRows N m0 cap) (count (isSeen cap) (words N))
-      ∙ rw (in-frames N (input .frames) (input .number), length-right (cap-long N m0 info par (flipsOf flips)), late-done N m0 info par (flipsOf flips))
+      ∙ rw (in-frames N (input .frames) (input .number), length-right (cap-long N m0 info par (flipsOf flips)), coded-late-done N m0 info par (flipsOf flips))
       (sym (in-turn (buffers wrongLength (false ∷ wrong (infoLength N) (length info₀) ∷ wrong (parityLength N) (length par₀) ∷ []) ∷ [])
       (howMany N (flipsOf flips))))
 
@@ -83,9 +83,9 @@ module _ (N m0 : ℕ) (info par cap : List ℕ) {m : Answer} {out : List ℕ}
   refused-kept h = coding .kept ∙ written-refused says (captureOf N m0 info par) cap (λ z. h (ap (λ (x : Answer). x .number) (coding .told) ∙ z))
 
   module _ (z : m .number ≡ allDone) where
-    pub coded : out ≡ captureOf N m0 info par
+    pub was-coded : out ≡ captureOf N m0 info par
     unfolding codeLeaves
-    coded = coding .kept ∙ written-done says (captureOf N m0 info par) cap (ap (λ (x : Answer). x .number) (sym (coding .told)) ∙ z)
+    was-coded = coding .kept ∙ written-done says (captureOf N m0 info par) cap (ap (λ (x : Answer). x .number) (sym (coding .told)) ∙ z)
 
     pub input : Bytes info → Bytes par → Input N m0 info par
     unfolding codeAnswer codeRows Passed RowPassed NoFault
@@ -116,7 +116,7 @@ module _ (N m0 : ℕ) (info par cap : List ℕ) {m : Answer} {out : List ℕ}
         → CodesAndReads N m0 info par flips cap info₀ par₀ r (got, left)
     unfolding codeReadAnswer codeReadLeaves
     read-follows {got} bi bp z flipping o =
-        let made = coded z in
+        let made = was-coded z in
         let c = flipsOf flips in
         let i = input z bi bp in
         let q : got ≡ flipped N c (captureOf N m0 info par) =
@@ -138,7 +138,7 @@ module _ (N m0 : ℕ) (info par cap : List ℕ) {m : Answer} {out : List ℕ}
         → CodesAndEdits N m0 b info par bits parity cap list r left
     unfolding codeEditAnswer codeEditLeaves
     edit-follows z o =
-        let q = coded z in
+        let q = was-coded z in
         goes-further _ (coding .told) z (record {
           told = o .told ∙ ap (λ (s : List ℕ). editAnswer N b bits parity s list) q ∙ edit-any N m0 b info par bits parity list;
           kept = o .kept ∙ ap (λ (s : List ℕ). editLeaves N b bits parity s list) q ∙ edit-leaves-any N m0 b info par bits parity list;

@@ -71,9 +71,9 @@ module _ (N b : ℕ) (bits parity cap list : List ℕ) where
     judged : r ≡ inTurn early (done 0)
     judged = e ∙ ap (λ (x : Bool). answerOf (editEarlyRows N b (length bits) (length parity) (length cap) (length list) x) 0) p ∙ in-turn early 0
 
-    pub accepted : r .number ≡ allDone → AcceptedEdit N b bits parity cap list
+    pub edit-accepted : r .number ≡ allDone → AcceptedEdit N b bits parity cap list
     unfolding editEarlyRows Passed RowPassed NoFault
-    accepted z =
+    edit-accepted z =
         let t = passed early (done 0) (edit-early-rise N b (length bits) (length parity) (length cap) (length list) (clientSpareSet bits)) judged z in
         let q = not-false (superAllowed N && ltb b (blocksOf N)) (t .0) in
         let f = frames-in N (ltb b (blocksOf N)) refl (t .0) in

@@ -8,7 +8,7 @@ use native.Mathlib.Omega.{arith}
 use Rattle.bits.specs.Bits.{digit, bitOf, bitAt, Bits}
 use Rattle.bits.proofs.Packing.{bitOf-at, bitOf-packs}
 use Rattle.crc.specs.Crc.{crcRem, crcShiftN}
-use Rattle.crc.proofs.Changes.{alone}
+use Rattle.crc.proofs.Changes.{crc-alone}
 use Rattle.scrambler.specs.Scrambler.{o}
 use Rattle.scrambler.proofs.Rule.{o-lt}
 use Rattle.scrambler.proofs.Period.{within-period}
@@ -86,5 +86,5 @@ pub crc-changes : (b : ℕ) (bits : List ℕ) (f : ℕ → ℕ) (m : ℕ) → bl
 unfolding crcChange
 crc-changes b bits f m e =
     sym (ap (crcRem (change b bits f)) (sym e)
-    ∙ alone (change b bits f) (blockFrom b) blockBits m (λ i l. change-out b bits f i (block-before b i l))
+    ∙ crc-alone (change b bits f) (blockFrom b) blockBits m (λ i l. change-out b bits f i (block-before b i l))
     (λ i l. change-out b bits f (blockFrom b + (blockBits + i)) (block-past b (blockFrom b + (blockBits + i)) (omega arith))))

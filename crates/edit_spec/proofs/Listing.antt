@@ -228,5 +228,5 @@ listed-outside N b w n = by (listed N b w) refl
 pub fails-outside : (N b : ℕ) (cap : List ℕ) (w : ℕ) → (Within b w → ⊥) → fails N b cap w ≡ false
 fails-outside N b cap w n = sym (fails-unlisted N b cap w (listed-outside N b w n))
 
-pub stretch-in : (N b : ℕ) → b < blocksOf N → stretchTo b ≤ words N
-stretch-in N b h = omega arith
+pub stretch-within : (N b : ℕ) → b < blocksOf N → stretchTo b ≤ words N
+stretch-within N b h = omega arith

@@ -27,14 +27,14 @@ pub folded-all : {A : Type 0} {g : ℕ → A → A} {a : A} {k : ℕ} {acc : A} 
 folded-all {A} {g} {a} {k} {acc} n e p q = let r : k ≡ n = omega arith in rw (e .is, r)
 
 -- ---- a search. None of the first i is picked
-pub record Passed (i : ℕ) (p : ℕ → Bool) (n : ℕ) : Type 0 where
+pub record PassedOver (i : ℕ) (p : ℕ → Bool) (n : ℕ) : Type 0 where
   pub within : i ≤ n
   pub none : (k : ℕ) → k < i → p k ≡ false
 
-pub passed-none : {p : ℕ → Bool} {n : ℕ} → Passed 0 p n
+pub passed-none : {p : ℕ → Bool} {n : ℕ} → PassedOver 0 p n
 passed-none = record { within = omega arith; none = λ k h. absurd (not-suc-le-zero h) }
 
-pub passed-more : {i : ℕ} {p : ℕ → Bool} {n : ℕ} → Passed i p n → i < n → p i ≡ false → Passed (i + 1) p n
+pub passed-more : {i : ℕ} {p : ℕ → Bool} {n : ℕ} → PassedOver i p n → i < n → p i ≡ false → PassedOver (i + 1) p n
 passed-more {i} {p} {n} e h q = record { within = omega arith; none = below-more (λ k. p k ≡ false) i (e .none) q }
 
 -- the first that p picks, by what it says of those before it
@@ -51,10 +51,10 @@ first-none p zero h = refl
 first-none p (suc n) h = rw (h 0 (omega arith)) (ap suc (first-none (λ k. p (suc k)) n (λ k m. h (suc k) (omega arith))))
 
 -- where the loop stops early, and where it comes to the end
-pub first-here : {i : ℕ} {p : ℕ → Bool} {n : ℕ} → Passed i p n → i < n → p i ≡ true → i ≡ first p n
+pub first-here : {i : ℕ} {p : ℕ → Bool} {n : ℕ} → PassedOver i p n → i < n → p i ≡ true → i ≡ first p n
 first-here {i} {p} {n} e h q = sym (first-is p i n (e .none) h q)
 
-pub first-end : {i : ℕ} {p : ℕ → Bool} {n : ℕ} → Passed i p n → n ≤ i → i ≡ first p n
+pub first-end : {i : ℕ} {p : ℕ → Bool} {n : ℕ} → PassedOver i p n → n ≤ i → i ≡ first p n
 first-end {i} {p} {n} e h = let q : i ≡ n = omega (arith, e .within) in q ∙ sym (first-none p n (λ k l. e .none k (omega arith)))
 
 -- what is known of `first`: it is at most n; nothing before it is picked; and below n it is picked itself

@@ -63,9 +63,9 @@ module _ (N m0 : ℕ) (cap info par : List ℕ) where
     shown : r .number ≡ allDone → Passed early
     shown z = passed early (done 0) (read-early-rise N m0 (length cap) (length info) (length par)) (e ∙ in-turn early 0) z
 
-    pub accepted : r .number ≡ allDone → AcceptedRead N cap info par
+    pub read-accepted : r .number ≡ allDone → AcceptedRead N cap info par
     unfolding readEarlyRows Passed RowPassed NoFault
-    accepted z =
+    read-accepted z =
         let p = shown z in
         let f = frames-in N (mbasAllowed m0) refl (p .0) in
         let w = p .1 .0 in

@@ -33,10 +33,10 @@ nine-of b h =
     ∙ sym (num-split 8 1 (bitAt b) 0)
 
 -- the bits of a word from bit i on, out of its bytes and one of zeros
-pub zeros-behind : (v w d : List ℕ) (i : ℕ) → i < 8 → length v ≡ wordBytes → Filled wordBytes (λ k. getD v k 0) d w → getD d wordBytes 0 ≡ 0
+pub zero-byte-behind : (v w d : List ℕ) (i : ℕ) → i < 8 → length v ≡ wordBytes → Filled wordBytes (λ k. getD v k 0) d w → getD d wordBytes 0 ≡ 0
     → pack wordBytes (fromIndex (bitAt w) i) ≡ pack wordBytes (fromIndex (bitAt v) i)
 unfolding bitOf
-zeros-behind v w d i h len e z =
+zero-byte-behind v w d i h len e z =
     packs-ext 8 wordBytes (fromIndex (bitAt w) i) (fromIndex (bitAt v) i) (λ j l. ap (λ (x : ℕ). digit 8 x ((i + j) % 8)) (by ((i + j) / 8) (omega arith)))
   where
     by : (k : ℕ) → k ≤ wordBytes → getD w k 0 ≡ getD v k 0
@@ -90,6 +90,6 @@ word-of cap w r e = ap (λ (x : Repaired). x .word) e
 -- ---- words whose checks are known
 
 -- checks zero: the word stays
-pub word-kept : (cap : List ℕ) (w : ℕ) → checksOf (wordIn cap w) ≡ 0 → wordIn cap w ≡ repaired cap w
+pub sound-word-kept : (cap : List ℕ) (w : ℕ) → checksOf (wordIn cap w) ≡ 0 → wordIn cap w ≡ repaired cap w
 unfolding repaired
-word-kept cap w e = sym (ap (λ (x : Repaired). x .word) (none-kept (wordIn cap w) e))
+sound-word-kept cap w e = sym (ap (λ (x : Repaired). x .word) (none-kept (wordIn cap w) e))

@@ -11,7 +11,7 @@ use lib.ListN.{length, getD}
 use Rattle.sizes.specs.Sizes.{wordBytes}
 use Rattle.prelude.specs.Loops.{first, count}
 use Rattle.prelude.proofs.Common.{by-bound}
-use Rattle.prelude.proofs.LoopLaws.{First, first-holds, first-is, first-none, Passed}
+use Rattle.prelude.proofs.LoopLaws.{First, first-holds, first-is, first-none, PassedOver}
 use Rattle.prelude.proofs.Counting.{count-more, count-le}
 use Rattle.hamming.specs.declared.Repaired.{Repaired}
 use Rattle.hamming.specs.Code.{checksOf}
@@ -131,7 +131,7 @@ pub some-none : (s : List ℕ) (k : ℕ) → getD s k 0 ≡ 0 → someAt s k ≡
 unfolding someAt
 some-none s k e = rw (eq-eqb (getD s k 0) 0 e)
 
-pub some-all : (s : List ℕ) {k : ℕ} → length s ≡ wordBytes → Passed k (someAt s) wordBytes → wordBytes ≤ k → true ≡ allZero s
+pub some-all : (s : List ℕ) {k : ℕ} → length s ≡ wordBytes → PassedOver k (someAt s) wordBytes → wordBytes ≤ k → true ≡ allZero s
 unfolding someAt
 some-all s {k} len p l =
     zero-all s (λ i h. eqb-true (getD s i 0) 0 (not-false (eqb (getD s i 0) 0) (p .none i (omega arith))))

@@ -2,7 +2,7 @@
 use denote.Ref.{now}
 use Rattle.answer.proofs.Meets.{meets-done, meets-refused}
 use Rattle.code.specs.Code.{captureOf, codeAnswer, codeLeaves}
-use Rattle.code.proofs.Judging.{granted}
+use Rattle.code.proofs.Judging.{code-granted}
 use borrow.Author.Needs.{needs}
 use Rattle.code.proofs.code.Statement.{statement}
 use Rattle.code.proofs.code.Tie as tie
@@ -14,7 +14,7 @@ code-all-requires : tie.Need-code-all-requires
 code-all-requires c κs =
     let j = c .before .before .before in
     let a = j .before .before .before .before .args in
-    granted (a .n) (a .m0) (now (a .info)) (now (a .parity)) (now (a .capture)) (j .judge .ensures) (c .before .if1 .taken)
+    code-granted (a .n) (a .m0) (now (a .info)) (now (a .parity)) (now (a .capture)) (j .judge .ensures) (c .before .if1 .taken)
 
 same-length : tie.Need-same-length
 same-length c = search needs

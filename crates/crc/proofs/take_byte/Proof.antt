@@ -2,7 +2,7 @@
 use Prim.Native.Nat.{_/_, _^_, _<_}
 use native.Mathlib.Omega.{arith}
 use lib.Bits.{bitXor}
-use Rattle.crc.proofs.Bytewise.{place-lt}
+use Rattle.crc.proofs.Bytewise.{bit-place-lt}
 use Rattle.crc.specs.Crc.{width}
 use Rattle.crc.specs.Steps.{byteStep}
 use borrow.Author.Needs.{needs}
@@ -16,7 +16,7 @@ wide-requires : tie.Need-wide-requires
 wide-requires c κs = search needs
 
 place : (c : tie.After-wide) → bitXor (c .before .before .before .args .r / 2 ^ 24) (c .wide .result) < 256
-place c = place-lt width (c .before .before .before .args .r) (c .wide .result) (omega arith) (omega arith) (omega arith)
+place c = bit-place-lt width (c .before .before .before .args .r) (c .wide .result) (omega arith) (omega arith) (omega arith)
 
 cast-result : tie.Need-cast-result
 cast-result c = omega (arith, place c)

@@ -7,7 +7,7 @@ use native.Mathlib.Omega.{arith}
 use denote.Ref.{now}
 use Rattle.crc.specs.Remainder.{remFrom}
 use Rattle.crc.specs.Crc.{crcStep, crcRem, crcShiftN}
-use Rattle.crc.proofs.Changes.{rem-more}
+use Rattle.crc.proofs.Changes.{crc-rem-more}
 use Rattle.line_order.specs.Order.{wordIn}
 use Rattle.line.specs.Words.{fecIn}
 use Rattle.sizes.specs.Sizes.{blockBits, clientBlocks}
@@ -53,7 +53,7 @@ loop-again c =
     let small : x .result < 2 = rw (x .ensures) (change-bits (a .b) (now (a .bits)) (fecIn (wordIn (now (a .capture))) (fecOf (a .b)))
     (blockFrom (a .b) + h .j)) in (
       omega arith,
-      rem-more (changes (a .b) (now (a .bits)) (now (a .capture))) (h .j) (h .inv .1) (x .ensures) (c .take .ensures ∙ ap (crcStep (h .r)) (mod-eq-of-lt small)),
+      crc-rem-more (changes (a .b) (now (a .bits)) (now (a .capture))) (h .j) (h .inv .1) (x .ensures) (c .take .ensures ∙ ap (crcStep (h .r)) (mod-eq-of-lt small)),
     )
 
 mul-shifted : tie.Need-mul-shifted Inv-loop μ-loop

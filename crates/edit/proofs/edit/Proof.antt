@@ -1,6 +1,6 @@
 -- `edit::edit` meets its contract: refused by numbers 1 to 3, or what is checked and done. Assumes nothing.
 use denote.Ref.{now}
-use Rattle.edit_spec.proofs.Answers.{accepted, edit-refused}
+use Rattle.edit_spec.proofs.Answers.{edit-accepted, edit-refused}
 use borrow.Author.Needs.{needs}
 use Rattle.edit.proofs.edit.Statement.{statement}
 use Rattle.edit.proofs.edit.Tie as tie
@@ -25,7 +25,7 @@ edit-checked-requires c κs =
     let j = i .before .before in
     let s = j .before in
     let a = s .before .before .before .before .before .args in
-    accepted (a .n) (a .block) (now (a .bits)) (now (a .parity)) (now (a .capture)) (now (a .list)) (s .spare-set .ensures) (j .judge .ensures) (i .if1 .left)
+    edit-accepted (a .n) (a .block) (now (a .bits)) (now (a .parity)) (now (a .capture)) (now (a .list)) (s .spare-set .ensures) (j .judge .ensures) (i .if1 .left)
 
 same-length : tie.Need-same-length
 same-length c = search needs

@@ -10,7 +10,7 @@ use Rattle.prelude.proofs.LoopLaws.{first-is, first-none}
 use Rattle.sizes.specs.Sizes.{words}
 use Rattle.edit_spec.specs.Edit.{fails}
 use Rattle.edit_spec.specs.Steps.{stretchFrom, stretchTo}
-use Rattle.edit_spec.proofs.Listing.{fails-outside, stretch-in}
+use Rattle.edit_spec.proofs.Listing.{fails-outside, stretch-within}
 use borrow.Author.Needs.{needs}
 use Rattle.edit.proofs.first_refused.Statement.{statement}
 use Rattle.edit.proofs.first_refused.Tie as tie
@@ -40,7 +40,7 @@ is-refused-requires : tie.Need-is-refused-requires Inv-loop μ-loop
 is-refused-requires c κs =
     let h = c .before .before in
     let s = h .before .before .before in
-    (s .pre .2, s .pre .1, s .pre .0, omega (arith, c .loop-test .taken, h .stretch-to .ensures, stretch-in (s .args .n) (s .args .b) (s .pre .1)))
+    (s .pre .2, s .pre .1, s .pre .0, omega (arith, c .loop-test .taken, h .stretch-to .ensures, stretch-within (s .args .n) (s .args .b) (s .pre .1)))
 
 returns : tie.Need-returns Inv-loop μ-loop
 returns c =
@@ -48,7 +48,7 @@ returns c =
     let s = h .before .before .before .before in
     let a = s .args in
     sym (first-is (fails (a .n) (a .b) (now (a .capture))) (h .loop .w) (words (a .n)) (h .loop .inv .2)
-    (omega (arith, c .before .before .loop-test .taken, h .before .stretch-to .ensures, stretch-in (a .n) (a .b) (s .pre .1)))
+    (omega (arith, c .before .before .loop-test .taken, h .before .stretch-to .ensures, stretch-within (a .n) (a .b) (s .pre .1)))
     (sym (c .before .is-refused .ensures) ∙ c .if1 .taken))
 
 add-w : tie.Need-add-w Inv-loop μ-loop

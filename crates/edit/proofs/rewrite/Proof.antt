@@ -4,7 +4,7 @@ use native.Mathlib.Omega.{arith}
 use denote.Ref.{now}
 use Rattle.sizes.specs.Sizes.{words}
 use Rattle.edit_spec.specs.Steps.{stretchTo, Passing}
-use Rattle.edit_spec.proofs.Listing.{listed-outside, stretch-in}
+use Rattle.edit_spec.proofs.Listing.{listed-outside, stretch-within}
 use Rattle.edit_spec.proofs.Passes.{passing-start, passing-skip, passing-long, passing-entries, passing-few, passing-word}
 use borrow.Author.Needs.{needs}
 use Rattle.edit.proofs.rewrite.Statement.{statement}
@@ -42,7 +42,7 @@ pass-word-requires c κs =
     let p = l .loop .inv .0 in (
       s .pre .0,
       s .pre .1,
-      omega (arith, c .before .before .loop-test .taken, l .before .stretch-to .ensures, stretch-in (a .n) (a .b) (s .pre .2)),
+      omega (arith, c .before .before .loop-test .taken, l .before .stretch-to .ensures, stretch-within (a .n) (a .b) (s .pre .2)),
       passing-long (a .n) (a .b) (now (a .bits)) (now (a .parity)) (now (a .capture)) (now (a .list)) p,
       omega (
         arith,
@@ -69,7 +69,7 @@ loop-again c =
     let a = s .args in
     let h = t .before .before .before .loop-test .taken in (
       passing-word (a .n) (a .b) (now (a .bits)) (now (a .parity)) (now (a .capture)) (now (a .list)) (l .loop .inv .0) (t .pass-word .ensures)
-          (omega (arith, h, l .before .stretch-to .ensures, stretch-in (a .n) (a .b) (s .pre .2))) (s .pre .5) (s .pre .3),
+          (omega (arith, h, l .before .stretch-to .ensures, stretch-within (a .n) (a .b) (s .pre .2))) (s .pre .5) (s .pre .3),
       omega (arith, h, l .before .stretch-to .ensures),
     )
 
@@ -98,7 +98,7 @@ returns c =
     let a = s .args in
     let e = l .before .stretch-to .ensures in
     passing-skip (a .n) (a .b) (now (a .bits)) (now (a .parity)) (now (a .capture)) (now (a .list)) (words (a .n))
-    (omega (arith, l .loop .inv .1, stretch-in (a .n) (a .b) (s .pre .2)))
+    (omega (arith, l .loop .inv .1, stretch-within (a .n) (a .b) (s .pre .2)))
     (λ x h m. listed-outside (a .n) (a .b) x (λ i. omega (arith, e, c .loop-test .left, i .below, h))) (l .loop .inv .0)
 
 pub rewrite-spec : {M : Type 1} → statement M

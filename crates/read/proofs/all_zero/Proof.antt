@@ -2,13 +2,13 @@
 use borrow.Author.Needs.{needs}
 use Prim.Native.Nat.{_-_}
 use Rattle.sizes.specs.Sizes.{wordBytes}
-use Rattle.prelude.proofs.LoopLaws.{Passed, passed-more, loops}
+use Rattle.prelude.proofs.LoopLaws.{PassedOver, passed-more, loops}
 use Rattle.read_spec.proofs.Searching.{zero-not, someAt, some-none, some-all}
 use Rattle.read.proofs.all_zero.Statement.{statement}
 use Rattle.read.proofs.all_zero.Tie as tie
 
 abbrev Inv-loop : tie.InvT-loop
-Inv-loop word k₀ k = Passed k (someAt word) wordBytes
+Inv-loop word k₀ k = PassedOver k (someAt word) wordBytes
 
 abbrev μ-loop : tie.MeasureT-loop
 μ-loop word k₀ k = wordBytes - k

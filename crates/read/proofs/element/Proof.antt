@@ -4,7 +4,7 @@ use denote.Ref.{now}
 use Rattle.hamming.specs.Code.{checksOf}
 use Rattle.hamming.specs.Repair.{repairOf}
 use Rattle.read_spec.specs.Read.{repaired}
-use Rattle.read_spec.proofs.Pieces.{word-of, word-kept}
+use Rattle.read_spec.proofs.Pieces.{word-of, sound-word-kept}
 use borrow.Author.Needs.{needs}
 use Rattle.read.proofs.element.Statement.{statement}
 use Rattle.read.proofs.element.Tie as tie
@@ -27,7 +27,7 @@ returns c =
     let a = k .before .before .before .args in
     let cap = now (a .capture) in
     let w = k .before .slot in
-    c .before .word-in .ensures ∙ word-kept cap (w .result) (sym (k .checks .ensures) ∙ c .if1 .taken) ∙ ap (repaired cap) (w .ensures)
+    c .before .word-in .ensures ∙ sound-word-kept cap (w .result) (sym (k .checks .ensures) ∙ c .if1 .taken) ∙ ap (repaired cap) (w .ensures)
 
 repair-word-requires : tie.Need-repair-word-requires
 repair-word-requires c κs =

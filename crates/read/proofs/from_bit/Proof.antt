@@ -6,7 +6,7 @@ use lib.ListN.{getD}
 use Rattle.sizes.specs.Sizes.{wordBytes}
 use Rattle.prelude.proofs.Lists.{Filled, filled-none, filled-more, filled-to}
 use Rattle.prelude.proofs.LoopLaws.{loops}
-use Rattle.read_spec.proofs.Pieces.{zeros-behind}
+use Rattle.read_spec.proofs.Pieces.{zero-byte-behind}
 use Rattle.read.proofs.from_bit.Statement.{statement}
 use Rattle.read.proofs.from_bit.Tie as tie
 
@@ -48,7 +48,7 @@ returns c =
     let h = at-loop .loop in
     let a = entry .args in
     c .word-from .ensures
-    ∙ zeros-behind (a .t1) (h .w) _ (a .i) (omega arith) (search loops)
+    ∙ zero-byte-behind (a .t1) (h .w) _ (a .i) (omega arith) (search loops)
     (filled-to wordBytes (h .inv .0) (omega (arith, h .inv .1, c .before .before .loop-test .left))) refl
 
 pub from-bit-spec : {M : Type 1} → statement M

@@ -2,13 +2,13 @@
 use borrow.Author.Needs.{needs}
 use Prim.Native.Nat.{_-_}
 use denote.Ref.{now}
-use Rattle.prelude.proofs.LoopLaws.{Passed, passed-more, loops}
+use Rattle.prelude.proofs.LoopLaws.{PassedOver, passed-more, loops}
 use Rattle.read_spec.proofs.Blocks.{padByte, pad-byte, pad-here, pad-zero}
 use Rattle.read.proofs.is_pad_off.Statement.{statement}
 use Rattle.read.proofs.is_pad_off.Tie as tie
 
 abbrev Inv-loop : tie.InvT-loop
-Inv-loop s k₀ k = Passed k (padByte s) 90
+Inv-loop s k₀ k = PassedOver k (padByte s) 90
 
 abbrev μ-loop : tie.MeasureT-loop
 μ-loop s k₀ k = 90 - k

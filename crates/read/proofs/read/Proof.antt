@@ -1,6 +1,6 @@
 -- `read::read` meets its contract. Assumes nothing.
 use denote.Ref.{now}
-use Rattle.read_spec.proofs.Judging.{accepted, read-late, read-refused}
+use Rattle.read_spec.proofs.Judging.{read-accepted, read-late, read-refused}
 use borrow.Author.Needs.{needs}
 use Rattle.read.proofs.read.Statement.{statement}
 use Rattle.read.proofs.read.Tie as tie
@@ -12,7 +12,7 @@ read-accepted-requires : tie.Need-read-accepted-requires
 read-accepted-requires c κs =
     let a = c .before .before .before .before .before .before .before .before .args in
     let j = c .before .before .before .before .judge in
-    accepted (a .n) (a .m0) (now (a .capture)) (now (a .info)) (now (a .parity)) (j .ensures) (c .before .before .if1 .taken)
+    read-accepted (a .n) (a .m0) (now (a .capture)) (now (a .info)) (now (a .parity)) (j .ensures) (c .before .before .if1 .taken)
 
 same-length : tie.Need-same-length
 same-length c = search needs
