@@ -373,68 +373,68 @@ static void reading(const char *label, uint64_t n, uint64_t m0, const uint8_t *c
     free(parity);
 }
 
-/* One damaged copy after the other: `damaged` starts anew as the coded capture. */
+/* One received copy after the other: `received` starts anew as the coded capture. */
 static struct coded whole;
-static uint8_t *damaged;
+static uint8_t *received;
 
-static void anew(void) { memcpy(damaged, whole.capture, whole.cl); }
+static void anew(void) { memcpy(received, whole.capture, whole.cl); }
 
 static void say(const char *label, uint64_t m0)
 {
-    reading(label, whole.n, m0, damaged, whole.cl, whole.il, whole.pl);
+    reading(label, whole.n, m0, received, whole.cl, whole.il, whole.pl);
     anew();
 }
 
 static void turned(size_t t, size_t bit)
 {
-    turn_in_block(damaged, t, bit);
+    turn_in_block(received, t, bit);
     say(LABEL("N %lu turned bit %lu of block %lu", whole.n, bit, t), whole.m0);
 }
 
 static void readings_of(uint64_t n)
 {
     whole = coded_capture(n);
-    damaged = copied(whole.capture, whole.cl);
+    received = copied(whole.capture, whole.cl);
     size_t last_word = ZR400_WORDS(n) - 1, last_block = 5 * n - 1, first_pad = 1305430, last_pad = 1306143;
     both_digests(LABEL("N %lu coded from", n), whole.info, whole.il, whole.parity, whole.pl);
     both_digests(LABEL("N %lu buffers before", n), seeded(998, whole.il), whole.il, seeded(997, whole.pl), whole.pl);
     for (size_t w = 0; w <= last_word; w++)
-        flip(damaged, w, (w * 37 + 11) % 128);
+        flip(received, w, (w * 37 + 11) % 128);
     say(LABEL("N %lu one flip in every word", n), whole.m0);
     for (size_t w = 0; w <= last_word; w += last_word) {
-        flip(damaged, w, 0);
-        flip(damaged, w, 1);
+        flip(received, w, 0);
+        flip(received, w, 1);
         say(LABEL("N %lu two flips in word %lu", n, w), whole.m0);
     }
     for (size_t w = 0; w <= last_word; w += last_word) {
-        put_nonzero(damaged, w);
+        put_nonzero(received, w);
         say(LABEL("N %lu filler not zero in word %lu", n, w), whole.m0);
     }
     turned(0, 244701);
     turned(last_block, 244696);
     turned(0, 0);
     turned(last_block, 244695);
-    turn(damaged, 0, first_pad);
+    turn(received, 0, first_pad);
     say(LABEL("N %lu turned bit %lu of super frame 0", n, first_pad), whole.m0);
-    turn(damaged, n - 1, last_pad);
+    turn(received, n - 1, last_pad);
     say(LABEL("N %lu turned bit %lu of super frame %lu", n, last_pad, n - 1), whole.m0);
-    turn_in_block(damaged, last_block, 244696);
-    turn_in_block(damaged, 0, 0);
+    turn_in_block(received, last_block, 244696);
+    turn_in_block(received, 0, 0);
     say(LABEL("N %lu last MBAS and first CRC wrong", n), whole.m0);
-    flip(damaged, last_word, 0);
-    flip(damaged, last_word, 1);
-    put_nonzero(damaged, 0);
+    flip(received, last_word, 0);
+    flip(received, last_word, 1);
+    put_nonzero(received, 0);
     say(LABEL("N %lu last word beyond repair, first filler not zero", n), whole.m0);
-    turn_in_block(damaged, last_block, 244695);
-    turn(damaged, 0, first_pad);
+    turn_in_block(received, last_block, 244695);
+    turn(received, 0, first_pad);
     say(LABEL("N %lu last CRC and first pad wrong", n), whole.m0);
-    turn_in_block(damaged, last_block, 0);
-    turn_in_block(damaged, 3, 0);
+    turn_in_block(received, last_block, 0);
+    turn_in_block(received, 3, 0);
     say(LABEL("N %lu CRC of block 3 and of the last wrong", n), whole.m0);
-    put_nonzero(damaged, last_word);
-    flip(damaged, last_word, 0);
+    put_nonzero(received, last_word);
+    flip(received, last_word, 0);
     say(LABEL("N %lu last filler not zero, its only element bit flipped", n), whole.m0);
-    turn_in_block(damaged, last_block, 261085);
+    turn_in_block(received, last_block, 261085);
     say(LABEL("N %lu last parity bit turned", n), whole.m0);
     say(LABEL("N %lu undamaged", n), whole.m0);
     say(LABEL("N %lu m0 one more", n), whole.m0 + 1);

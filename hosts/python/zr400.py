@@ -188,7 +188,7 @@ def edit(n: int, block: int, bits: Buffer, parity: Buffer, capture: Buffer) -> L
     """Replaces client block `block` (0..4,760 N - 1) and the parity of its FEC block in the capture, in place.
 
     `bits` is 33 bytes: 257 bits and seven zero bits; `parity` is 2,048 bytes. Returns the numbers of the words that were
-    written, rising; the other words are as before, damaged or not.
+    written, rising; the other words are as before, whatever they hold.
     """
     listed = array.array("Q", bytes(8 * _LIST_LENGTH))
     count = _granted(_EDIT, (n, block), (bits, parity), (capture, listed))

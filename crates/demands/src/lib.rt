@@ -72,7 +72,7 @@ pub fn code_flip_read(
     capture::read(n, m0, capture, back, parity_back)
 }
 
-// Turns the chosen bits, word by word.
+// Flips the named bits, word by word.
 fn flip_bits(flips: &[u8], capture: &mut [u8])
     ensures { λ _. ⌜ now (capture .exit) ≡ flippedBytes (now (flips .entry)) (now (capture .entry)) ⌝ }
 {

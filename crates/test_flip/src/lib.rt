@@ -2,7 +2,7 @@
 ghost use mathlib.Core.Path.{_≡_};
 ghost use Rattle.test_flip.specs.Flipped.{flippedWord, bitAlone, flippedInAll};
 
-// Turns in word w of a capture the bits that v has. Past the end of the capture nothing is turned.
+// Flips in word w of a capture the bits that v has. Past the end of the capture nothing is flipped.
 pub fn flip(capture: &mut [u8], w: usize, v: [u8; 16])
     ensures { λ _. ⌜ now (capture .exit) ≡ flippedWord w v (now (capture .entry)) ⌝ }
 {
@@ -24,7 +24,7 @@ pub fn bit(i: usize) -> [u8; 16]
     v
 }
 
-// Turns one bit of each word, filler too: bit 37·w + 11, modulo 128, of word w.
+// Flips one bit of each word, filler too: bit 37·w + 11, modulo 128, of word w.
 pub fn flip_in_all(capture: &mut [u8])
     ensures { λ _. ⌜ now (capture .exit) ≡ flippedInAll (now (capture .entry)) ⌝ }
 {

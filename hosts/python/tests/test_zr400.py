@@ -138,15 +138,15 @@ class Vectors(unittest.TestCase):
         capture = coded(1)[2]
         last = zr400.words(1) - 1
         self.reading("N 1 undamaged", 1, 7, capture, lines)
-        damaged = bytearray(capture)
+        received = bytearray(capture)
         for w in range(last + 1):
-            flip(damaged, w, (w * 37 + 11) % 128)
-        self.reading("N 1 one flip in every word", 1, 7, damaged, lines)
+            flip(received, w, (w * 37 + 11) % 128)
+        self.reading("N 1 one flip in every word", 1, 7, received, lines)
         for w in (0, last):
-            damaged = bytearray(capture)
-            flip(damaged, w, 0)
-            flip(damaged, w, 1)
-            self.reading(f"N 1 two flips in word {w}", 1, 7, damaged, lines)
+            received = bytearray(capture)
+            flip(received, w, 0)
+            flip(received, w, 1)
+            self.reading(f"N 1 two flips in word {w}", 1, 7, received, lines)
         self.reading("N 1 m0 one more", 1, 8, capture, lines)
         self.reading("N 0", 0, 7, capture, lines)
         self.reading("N 9", 9, 7, capture, lines)

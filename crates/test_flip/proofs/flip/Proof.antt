@@ -12,10 +12,10 @@ use Rattle.test_flip.proofs.flip.Statement.{statement}
 use Rattle.line_order.specs.Steps.{putWord}
 use Rattle.test_flip.proofs.flip.Tie as tie
 
-turned : {x s out : List ℕ} (cap : List ℕ) (w : ℕ) (v : List ℕ) → x ≡ wordIn cap w → s ≡ pack wordBytes (added (bitAt x) (bitAt v))
+flips-word : {x s out : List ℕ} (cap : List ℕ) (w : ℕ) (v : List ℕ) → x ≡ wordIn cap w → s ≡ pack wordBytes (added (bitAt x) (bitAt v))
     → out ≡ putWord cap w s → out ≡ flippedWord w v cap
 unfolding flippedWord
-turned cap w v p q r = rw (r, q, p)
+flips-word cap w v p q r = rw (r, q, p)
 
 word-in-requires : tie.Need-word-in-requires
 word-in-requires c κs = search needs
@@ -34,7 +34,7 @@ returns c =
     let p = c .before .before in
     let s = p .before in
     let a = s .before .before .before .before .before .args in
-    turned (now (a .capture)) (a .w) (a .v) (s .before .word-in .ensures) (s .sum .ensures) (p .put-word .ensures)
+    flips-word (now (a .capture)) (a .w) (a .v) (s .before .word-in .ensures) (s .sum .ensures) (p .put-word .ensures)
 
 pub flip-spec : {M : Type 1} → statement M
 flip-spec =
