@@ -263,5 +263,5 @@ def legend(families: List[str], colours: Dict[str, int]) -> List[str]:
         drawn.append(shape(x, 10, 30, colour, is_program))
         drawn.append(f'<text x="{x + 36:.1f}" y="27">{escape(text)}</text>')
         x += 52 + 7 * len(text)
-    said = "A line leads from a crate down to one that it stands on; lines to the same crate join. What follows from these lines is left out."
+    said = "Numbers are layers. A line leads from a crate down to one that it stands on; in italics, where lines to one crate join. What follows is left out."
     return drawn + [f'<text x="{MARGIN}" y="56" fill="#555">{said}</text>']

@@ -70,7 +70,7 @@ zr_answer zr400_information(uint64_t n, uint64_t t, const uint8_t *info, size_t 
 zr_answer zr400_code(uint64_t n, uint64_t m0, const uint8_t *info, size_t info_length, const uint8_t *parity,
                      size_t parity_length, uint8_t *capture, size_t capture_length);
 
-/* Reads a capture back, repairing one wrong bit in each word; the count is the words whose checks were not zero. */
+/* Reads a capture back, repairing one flipped bit in each word; the count is the words whose checks were not zero. */
 zr_answer zr400_read(uint64_t n, uint64_t m0, const uint8_t *capture, size_t capture_length, uint8_t *info,
                      size_t info_length, uint8_t *parity, size_t parity_length);
 

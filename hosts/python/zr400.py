@@ -175,7 +175,7 @@ def code(n: int, m0: int, information: Buffer, parity: Buffer, capture: Optional
 def read(
     n: int, m0: int, capture: Buffer, information: Optional[Buffer] = None, parity: Optional[Buffer] = None
 ) -> Reading:
-    """Reads a capture back, repairing one wrong bit in each word. The capture itself is not changed."""
+    """Reads a capture back, repairing one flipped bit in each word. The capture itself is not changed."""
     if information is None:
         information = bytearray(information_length(n) if _is_size(n) else 0)
     if parity is None:

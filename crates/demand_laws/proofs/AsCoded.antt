@@ -55,26 +55,26 @@ first-mbas m0 m1 h k e = omega (arith, ltb-true m0 64 h, ltb-true m1 64 k)
 -- reading it with another first number is refused by 6 at FEC block 0
 module _ (N m0 m1 : ℕ) (info par info₀ par₀ : List ℕ) (input : Input N m0 info par) (other : mbasAllowed m1 ≡ true) (differ : m0 ≡ m1 → ⊥)
     (info₀-long : length info₀ ≡ infoLength N) (par₀-long : length par₀ ≡ parityLength N) where
-  abbrev flipIfNot : List ℕ
-  flipIfNot = flipped N noFlips (captureOf N m0 info par)
+  abbrev asCoded : List ℕ
+  asCoded = flipped N noFlips (captureOf N m0 info par)
 
   some : 0 < fecBlocks * N
   some = omega (arith, super-frames N (input .frames))
 
-  mbas-other : mbasDiffers m1 flipIfNot 0 ≡ true
+  mbas-other : mbasDiffers m1 asCoded 0 ≡ true
   unfolding mbasDiffers
   mbas-other =
-      ap not (ne-eqb (num mbasBits (fecIn (repaired flipIfNot) 0) mbasFrom) (mbasOf m1 0)
+      ap not (ne-eqb (num mbasBits (fecIn (repaired asCoded) 0) mbasFrom) (mbasOf m1 0)
       (λ e. differ (first-mbas m0 m1 (input .number) other (sym (mbas-read N m0 info par noFlips 0 some) ∙ e))))
 
   pub read-other : readAnswer N m1 (captureOf N m0 info par) info₀ par₀ ≡ refused wrongMbas 0
   unfolding readAnswer readLateRows inTurn rowThen
   read-other =
       let long = capture-long N m0 info par in
-      let c = count (isSeen flipIfNot) (words N) in
+      let c = count (isSeen asCoded) (words N) in
       ap (λ (s : List ℕ). readAnswer N m1 s info₀ par₀) (sym (none-flipped N (captureOf N m0 info par) long))
-      ∙ early-passed (readEarlyRows N m1 (length flipIfNot) (length info₀) (length par₀)) (readLateRows N m1 flipIfNot) c
+      ∙ early-passed (readEarlyRows N m1 (length asCoded) (length info₀) (length par₀)) (readLateRows N m1 asCoded) c
       (early-passed-by N m0 info par noFlips input info₀ par₀ info₀-long par₀-long m1 other)
-      ∙ in-turn (readLateRows N m1 flipIfNot) c
-      ∙ rw (none-there (words N) (isBeyond flipIfNot) (no-4 N m0 info par noFlips), none-there (words N) (isFilled N flipIfNot) (no-5 N m0 info par noFlips))
-      (rw (first-is (mbasDiffers m1 flipIfNot) 0 (fecBlocks * N) (λ q l. absurd (omega arith)) some mbas-other, lt-ltb 0 (fecBlocks * N) some))
+      ∙ in-turn (readLateRows N m1 asCoded) c
+      ∙ rw (none-there (words N) (isBeyond asCoded) (no-4 N m0 info par noFlips), none-there (words N) (isFilled N asCoded) (no-5 N m0 info par noFlips))
+      (rw (first-is (mbasDiffers m1 asCoded) 0 (fecBlocks * N) (λ q l. absurd (omega arith)) some mbas-other, lt-ltb 0 (fecBlocks * N) some))

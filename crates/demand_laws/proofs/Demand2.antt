@@ -24,7 +24,7 @@ use Rattle.hamming.specs.Repair.{repairOf, foundNumber}
 use Rattle.hamming.specs.declared.Repaired.{Repaired}
 use Rattle.hamming.proofs.Words.{coded-checks}
 use Rattle.hamming.proofs.Flipping.{flip-long}
-use Rattle.hamming.proofs.Repairs.{none-kept, one-seen, one-repaired}
+use Rattle.hamming.proofs.Repairs.{none-kept, flip-seen, flip-repaired}
 use Rattle.sizes.specs.Sizes.{infoBits, crcBits, mbasBits, mbasFrom, parityFrom, fecBits, fecBlocks, padFrom, padBits, infoLength, parityLength}
 use Rattle.sizes.specs.Sizes.{captureLength, words, wordBytes, wordBits}
 use Rattle.line.proofs.CaptureLaws.{in-frames}
@@ -56,12 +56,12 @@ flip-if-by : (v : List ℕ) (p : ℕ) (b : Bool) → ltb p wordBits ≡ b → le
     × (not (eqb (checksOf (cond b (flip v p) v)) 0) ≡ b)
 flip-if-by v p true e long clean =
     let h : p < wordBits = ltb-true p wordBits e in
-    let r = one-repaired v long clean p h in (
+    let r = flip-repaired v long clean p h in (
       flip-long v p ∙ long,
       ap (λ (x : Repaired). x .word) r,
       ap (λ (x : Repaired). foundNumber (x .found)) r,
       ap not
-          (ne-eqb (checksOf (flip v p)) 0 (one-seen v long clean p h)),
+          (ne-eqb (checksOf (flip v p)) 0 (flip-seen v long clean p h)),
     )
 flip-if-by v p false e long clean =
     let r = none-kept v clean in

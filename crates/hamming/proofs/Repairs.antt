@@ -87,27 +87,27 @@ found-checks w = by-tests w (flip w (positionOf (checksOf w))) (positionOf (chec
 
 module _ (w : List ℕ) (long : length w ≡ wordBytes) (clean : checksOf w ≡ 0) where
   -- with one bit flipped, its checks are that bit's column
-  pub one-checks : (i : ℕ) → i < wordBits → checksOf (flip w i) ≡ columnOf i
-  one-checks i h = checks-flip w long i h ∙ ap (λ (c : ℕ). bitXor c (columnOf i)) clean ∙ xor-zero-l (columnOf i)
+  pub flip-checks : (i : ℕ) → i < wordBits → checksOf (flip w i) ≡ columnOf i
+  flip-checks i h = checks-flip w long i h ∙ ap (λ (c : ℕ). bitXor c (columnOf i)) clean ∙ xor-zero-l (columnOf i)
 
   -- so it is seen
-  pub one-seen : (i : ℕ) → i < wordBits → checksOf (flip w i) ≡ 0 → ⊥
-  one-seen i h e = column-not-zero i h (sym (one-checks i h) ∙ e)
+  pub flip-seen : (i : ℕ) → i < wordBits → checksOf (flip w i) ≡ 0 → ⊥
+  flip-seen i h e = column-not-zero i h (sym (flip-checks i h) ∙ e)
 
   -- and repaired to what it was
-  pub one-repaired : (i : ℕ) → i < wordBits → repairOf (flip w i) ≡ answer w (Flipped i)
+  pub flip-repaired : (i : ℕ) → i < wordBits → repairOf (flip w i) ≡ answer w (Flipped i)
   unfolding repairOf
-  one-repaired i h =
-      let p : positionOf (checksOf (flip w i)) ≡ i = ap positionOf (one-checks i h) ∙ position-column i h in
+  flip-repaired i h =
+      let p : positionOf (checksOf (flip w i)) ≡ i = ap positionOf (flip-checks i h) ∙ position-column i h in
       ap (repairAt (flip w i) (checksOf (flip w i))) p
-      ∙ at-flipped (flip w i) (checksOf (flip w i)) i (one-seen i h) h
+      ∙ at-flipped (flip w i) (checksOf (flip w i)) i (flip-seen i h) h
       ∙ ap (λ (v : List ℕ). answer v (Flipped i)) (flip-flip w long i h)
 
   module _ (i j : ℕ) (hi : i < wordBits) (hj : j < wordBits) (differ : i ≡ j → ⊥) where
     -- with two, its checks are the sum of two columns: not zero, and even by the row of ones
     pub two-checks : checksOf (flip (flip w i) j) ≡ bitXor (columnOf i) (columnOf j)
     two-checks =
-        checks-flip (flip w i) (flip-long w i ∙ long) j hj ∙ ap (λ (c : ℕ). bitXor c (columnOf j)) (one-checks i hi)
+        checks-flip (flip w i) (flip-long w i ∙ long) j hj ∙ ap (λ (c : ℕ). bitXor c (columnOf j)) (flip-checks i hi)
 
     pub two-seen : checksOf (flip (flip w i) j) ≡ 0 → ⊥
     two-seen e = differ (columns-differ i j hi hj (xor-none (columnOf i) (columnOf j) (sym two-checks ∙ e)))

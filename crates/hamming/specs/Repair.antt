@@ -18,7 +18,7 @@ answer w f = record { word = w; found = f }
 unfoldable pub repairAt : List ℕ → ℕ → ℕ → Repaired
 repairAt w c i = cond (eqb c 0) (answer w Clean) (cond (ltb i wordBits) (answer (flip w i) (Flipped i)) (answer w Beyond))
 
--- what repair makes of a word: `one-repaired`, `none-kept` and `beyond-kept` of proofs/Repairs.antt
+-- what repair makes of a word: `flip-repaired`, `none-kept` and `beyond-kept` of proofs/Repairs.antt
 unfoldable pub repairOf : List ℕ → Repaired
 repairOf w = repairAt w (checksOf w) (positionOf (checksOf w))
 

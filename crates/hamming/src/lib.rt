@@ -152,7 +152,7 @@ pub fn repair_at(w: [u8; 16], c: u16, i: u8) -> Repaired
     }
 }
 
-// Any sixteen bytes: one wrong bit is flipped back.
+// Any sixteen bytes: one flipped bit is flipped back.
 pub fn repair(w: [u8; 16]) -> Repaired
     ensures { λ r. ⌜ r ≡ repairOf w ⌝ }
 {

@@ -110,7 +110,7 @@ fn edit_and_read(n: u64, m0: u64, g: Generator, capture: &mut [u8]) -> Generator
     k
 }
 
-// Where coding is refused the capture stays as it is: zeros, which pass their checks. The second time the edit meets a wrong bit, and some words
+// Where coding is refused the capture stays as it is: zeros, which pass their checks. The second time the edit meets a flipped bit, and some words
 // are beyond repair.
 fn case(n: u64, seed: u64, m0: u64, capture: &mut [u8]) {
     name(n, seed, m0);

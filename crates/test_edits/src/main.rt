@@ -1,5 +1,5 @@
 // Edits captures of 1, 2 and 8 super frames and writes each answer with digests of the capture and of the list. A granted edit is compared with coding
-// afresh and read back. Then edits that are refused by each number, edits beside wrong bits, and edits of a capture that was never coded.
+// afresh and read back. Then edits that are refused by each number, edits beside flipped bits, and edits of a capture that was never coded.
 ghost use mathlib.Core.Path.{_≡_};
 ghost use lib.ListN.{length};
 ghost use Rattle.buffer_sizes.specs.Lengths.{largeBytes};
@@ -283,7 +283,7 @@ fn refused(what: &[u8], n: u64, spare: u8, client: usize, parity: usize, list: u
     edited(1, n, 6, spare, client, parity, list);
 }
 
-// ---- edits of block 6 in a capture with wrong bits
+// ---- edits of block 6 in a capture with flipped bits
 
 fn flip_two(w: usize, i: usize, x: usize, j: usize, capture: &mut [u8]) {
     test_flip::flip(capture, w, test_flip::bit(i));
