@@ -74,6 +74,8 @@ class Crate:
         text = read(source + "lib.rt")
         open_files = {source + "lib.rt"} | {f"{source}{m}.rt" for m in re.findall(r"^pub mod (\w+);", text, re.M)}
         handed_on = {(f"{source}{m}.rt", n) for m, n in re.findall(r"^pub use (\w+)::(\w+);", text, re.M)}
+        if len(handed_on) != len(re.findall(r"^pub use ", text, re.M)):
+            raise SystemExit(f"{source}lib.rt: a `pub use` that docs/house.py cannot read")
         functions = [n for n in self.code if n.kind == "fn" and n.public]
         return [n for n in functions if n.file in open_files or (n.file, n.name) in handed_on]
 

@@ -36,8 +36,10 @@ fn level(v: i8) {
         test_print::text(b" -1");
     } else if v == 1 {
         test_print::text(b" 1");
-    } else {
+    } else if v == 3 {
         test_print::text(b" 3");
+    } else {
+        test_print::text(b" ?");
     }
 }
 

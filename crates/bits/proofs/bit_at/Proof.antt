@@ -4,23 +4,18 @@ use Rattle.bits.specs.Bits.{bitOf, digit}
 use Rattle.bits.proofs.bit_at.Statement.{statement}
 use Rattle.bits.proofs.bit_at.Tie as tie
 
--- src/lib.rt:23:6
 byte-at-requires : tie.Need-byte-at-requires
 byte-at-requires c κs = search needs
 
--- src/lib.rt:23:28
 sub-result : tie.Need-sub-result
 sub-result c = search needs
 
--- src/lib.rt:23:28
 cast-result : tie.Need-cast-result
 cast-result c = search needs
 
--- src/lib.rt:23:6
 shr-result : tie.Need-shr-result
 shr-result c = search needs
 
--- src/lib.rt:20:1
 returns : tie.Need-returns
 unfolding bitOf digit
 returns c = rw (c .byte-at .ensures)

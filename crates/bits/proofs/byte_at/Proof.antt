@@ -6,15 +6,12 @@ use denote.Ref.{now}
 use Rattle.bits.proofs.byte_at.Statement.{statement}
 use Rattle.bits.proofs.byte_at.Tie as tie
 
--- src/lib.rt:13:9
 shared-slice-read-result : tie.Need-shared-slice-read-result
 shared-slice-read-result c = search needs
 
--- src/lib.rt:9:1
 returns : tie.Need-returns
 returns c = search needs
 
--- src/lib.rt:9:1
 returns-2 : tie.Need-returns-2
 returns-2 c = sym (List·getD-eq-default (now (c .before .args .s)) 0 (c .if1 .left))
 
