@@ -2,6 +2,8 @@
 # It sets kit, tools (the compiler's folder for this machine) and emulator (empty on x86-64).
 
 repository=$(cd "$(dirname "${BASH_SOURCE[0]}")/.." && pwd -P)
+version=$(cat "$repository/VERSION")
+soname=libzr400.so.${version%%.*}
 
 fail() {
     printf '%s\n' "$*" >&2
@@ -27,16 +29,13 @@ compile() {
         -nostdinc -isystem "$repository/hosts/c/headers" -I "$repository/hosts/c" "$@" -c "$source" -o "$object"
 }
 
-# archive ARCHIVE OBJECT..: a static library of objects.
-archive() {
-    rm -f "$1"
-    "$tools/bin/llvm-ar" rcs "$@"
-}
+# archive ARCHIVE OBJECT..: a static library of objects, or objects added to one.
+archive() { "$tools/bin/llvm-ar" rcs "$@"; }
 
 # link_shared LIBRARY.so ARCHIVE: the same library, to be loaded by a running program. Only zr400_.. can be seen.
 link_shared() {
     printf '{ global: zr400_*; local: *; };\n' >"$1.names"
-    "$tools/bin/ld.lld" -shared -soname "$(basename "$1")" --version-script="$1.names" -z noexecstack -z relro -z now \
+    "$tools/bin/ld.lld" -shared -soname "$soname" --version-script="$1.names" -z noexecstack -z relro -z now \
         --no-undefined -o "$1" --whole-archive "$2" --no-whole-archive "$tools/lib/libc.so.6"
     rm -f "$1.names"
 }
@@ -55,3 +54,6 @@ run_program() {
     shift
     ${emulator:+"$emulator"} "$tools/lib/ld-linux-x86-64.so.2" --library-path "$tools/lib" "$program" "$@"
 }
+
+# prove LOG WORD..: runs `rt WORD..` in this repository and shows how far it is.
+prove() { (cd "$repository" && exec hosts/prove "$@"); }

@@ -695,6 +695,18 @@ static void parts(void)
     part("one byte long", 1, 4, info, il + 1);
 }
 
+/* ---- sentences */
+
+static void sentences(void)
+{
+    static const uint64_t beyond[2] = {10, UINT64_MAX};
+    for (uint64_t number = 0; number < 10; number++)
+        printf("%lu %s\n", number, zr400_sentence(number));
+    for (int k = 0; k < 2; k++)
+        printf("%lu %s\n", beyond[k], zr400_sentence(beyond[k]));
+    printf("version %s\n", zr400_version());
+}
+
 #include "random.h"
 
 int main(int count, char **words)
@@ -713,9 +725,11 @@ int main(int count, char **words)
         places();
     else if (strcmp(name, "parts") == 0)
         parts();
+    else if (strcmp(name, "sentences") == 0)
+        sentences();
     else if (strcmp(name, "random") == 0 && count > 2)
         random_calls(strtoul(words[2], NULL, 10));
     else
-        stop("usage: check coded|readings|edits|windows CASE..|places|parts|random SEED");
+        stop("usage: check coded|readings|edits|windows CASE..|places|parts|sentences|random SEED");
     return 0;
 }

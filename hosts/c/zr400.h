@@ -4,7 +4,7 @@
  * the top bit of the first byte. A buffer is a pointer and its length: in bytes, and for `list` in numbers of 64 bits.
  * A buffer of length 0 may be a null pointer. Two buffers of one call must not overlap where one of them is written.
  * The library keeps no state, allocates nothing and calls nothing back: any number of threads may use it at once, each
- * with about one MiB of stack.
+ * with ZR400_STACK_BYTES of stack for the call.
  *
  * Every call answers a number. 0 is "done"; any other number is a refusal, and a refusal changes no byte of any buffer.
  *
@@ -46,6 +46,9 @@ extern "C" {
 #define ZR400_WINDOW_BYTES(n) ((size_t)257 * (n) / 2)                 /* n places, n even */
 #define ZR400_GROUPS_BYTES(d) (((size_t)257 * (d) + 1) / 2)           /* d data places */
 
+/* The stack that a call needs at the most. hosts/check measures every call and compares. */
+#define ZR400_STACK_BYTES 393216u
+
 typedef struct { uint64_t number, place, count; } zr_answer;
 typedef struct { uint64_t number, kind, last; } zr_run;               /* kind 0 stuff, 1 data */
 
@@ -77,6 +80,12 @@ zr_answer zr400_read(uint64_t n, uint64_t m0, const uint8_t *capture, size_t cap
 /* Replaces one client block and its FEC block's parity in the capture, and lists the words it wrote; the count is their number. */
 zr_answer zr400_edit(uint64_t n, uint64_t block, const uint8_t *bits, size_t bits_length, const uint8_t *parity,
                      size_t parity_length, uint8_t *capture, size_t capture_length, uint64_t *list, size_t list_length);
+
+/* The table's sentence for a number, and for a number that no call gives a sentence that says so. The text stays. */
+const char *zr400_sentence(uint64_t number);
+
+/* The version of the library: three numbers with points between them. */
+const char *zr400_version(void);
 
 #ifdef __cplusplus
 }

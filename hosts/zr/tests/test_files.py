@@ -1,0 +1,111 @@
+"""Outputs when the disk does not do as asked: what hosts/check-zr cannot bring about from outside.
+
+    python3 -m unittest discover -s hosts/zr/tests
+"""
+
+import errno
+import os
+import sys
+import tempfile
+import unittest
+from unittest import mock
+
+sys.path.insert(0, os.path.dirname(os.path.dirname(os.path.abspath(__file__))))
+
+import files  # noqa: E402
+from files import Failed, Output  # noqa: E402
+
+
+def refusing(function, call):
+    """A function of the system that fails at one of its calls."""
+    made = []
+
+    def refuse(*words, **more):
+        made.append(words)
+        if len(made) == call:
+            raise OSError(errno.EIO, os.strerror(errno.EIO))
+        return function(*words, **more)
+
+    return refuse
+
+
+class Outputs(unittest.TestCase):
+    def setUp(self):
+        self.room = tempfile.TemporaryDirectory()
+        self.addCleanup(self.room.cleanup)
+        self.first, self.second = (os.path.join(self.room.name, name) for name in ("first", "second"))
+
+    def begun(self, force):
+        outputs = [Output("FIRST", self.first, force), Output("SECOND", self.second, force)]
+        for output in outputs:
+            output.begin()
+            os.write(output.descriptor, b"new")
+        return outputs
+
+    def deliver(self, outputs):
+        try:
+            files.deliver(outputs)
+        finally:
+            for output in outputs:
+                output.end()
+
+    def holds(self, expected):
+        there = {}
+        for name in os.listdir(self.room.name):
+            with open(os.path.join(self.room.name, name), "rb") as file:
+                there[name] = file.read()
+        self.assertEqual(there, expected)
+
+    def old(self):
+        for path in (self.first, self.second):
+            with open(path, "wb") as file:
+                file.write(b"old")
+
+    def test_both(self):
+        self.deliver(self.begun(False))
+        self.holds({"first": b"new", "second": b"new"})
+
+    def test_neither_new(self):
+        with mock.patch("os.link", refusing(os.link, 2)), self.assertRaisesRegex(Failed, "second cannot be written: Input/output error$"):
+            self.deliver(self.begun(False))
+        self.holds({})
+
+    def test_neither_replaced(self):
+        self.old()
+        with mock.patch("os.replace", refusing(os.replace, 2)), self.assertRaisesRegex(Failed, "second cannot be written: Input/output error$"):
+            self.deliver(self.begun(True))
+        self.holds({"first": b"old", "second": b"old"})
+
+    def test_what_cannot_be_put_back_is_said(self):
+        """A disk without second names keeps no old file."""
+        self.old()
+        with mock.patch("os.link", refusing(os.link, 1)), mock.patch("os.replace", refusing(os.replace, 2)):
+            with self.assertRaisesRegex(Failed, "first is new already, and the old one could not be put back"):
+                self.deliver(self.begun(True))
+        self.holds({"first": b"new", "second": b"old"})
+
+    def test_not_on_the_disk(self):
+        with mock.patch("os.fsync", refusing(os.fsync, 2)), self.assertRaisesRegex(Failed, "second cannot be written"):
+            self.deliver(self.begun(False))
+        self.holds({})
+
+    def test_what_came_meanwhile_stays(self):
+        outputs = self.begun(False)
+        with open(self.second, "wb") as file:
+            file.write(b"another's")
+        with self.assertRaisesRegex(Failed, "second cannot be written: File exists"):
+            self.deliver(outputs)
+        self.holds({"second": b"another's"})
+
+    def test_a_disk_without_second_names(self):
+        def link(*_, **__):
+            raise OSError(errno.EPERM, os.strerror(errno.EPERM))
+
+        outputs = self.begun(False)
+        with mock.patch("os.link", link):
+            self.deliver(outputs)
+        self.holds({"first": b"new", "second": b"new"})
+
+
+if __name__ == "__main__":
+    unittest.main()
