@@ -20,7 +20,7 @@ zr edit  N BLOCK BITS PARITY CAPTURE OUT replaces a client block and its FEC blo
 zr map   C F N GROUPS WINDOW             puts data groups into the window of N places from place F on
 zr unmap C F N WINDOW GROUPS             takes them out again
 zr runs  C                               lists the runs of data and stuff places under the count C
-zr help                                  this text
+zr help, zr --version                    this text; the version
 
 N is 1 to 8 super frames and M0, where the FEC blocks count from, 0 to 63. INFO has 152915 bytes for each
 super frame, PARITY 10240, and CAPTURE 175616 and 7680 more. For an edit BLOCK is 0 to 4760 N - 1, BITS has 33 bytes
@@ -114,7 +114,8 @@ class Command:
         if process.returncode or not re.match(r"done|refused|failed|Cm ", answer):
             raise Failed(f"the program zr ended by {ending(process.returncode)}; nothing was written")
         if answer.startswith("failed"):
-            raise Failed(f"{answer[len('failed: '):].strip()} ({named_in(why, handed).strip()})")
+            what, reason = answer[len("failed: ") :].split(",")[0].strip(), named_in(why, handed).strip().rpartition(": ")[2]
+            raise Failed(f"{what}: {reason}; nothing was written")
         if answer.startswith("refused"):
             say(answer)
             return REFUSED
@@ -155,7 +156,7 @@ def say_data(text: str) -> None:
 
 
 def ending(status: int) -> str:
-    return f"the signal {-status}" if status < 0 else f"status {status}, and no answer"
+    return f"the signal {-status} ({signal.strsignal(-status)})" if status < 0 else f"status {status}, and no answer"
 
 
 def done(words: Sequence[str]) -> int:
@@ -163,6 +164,9 @@ def done(words: Sequence[str]) -> int:
     rest = list(words[1:] if force else words)
     if rest[:1] in (["help"], ["--help"], ["-h"]):
         say_data(HELP)
+        return DONE
+    if rest == ["--version"]:
+        say_data(f"zr {program.version()}\n")
         return DONE
     if not rest or len(rest) - 1 != len(COMMANDS.get(rest[0], rest)):
         raise Failed(f"no such command, or not the arguments that it takes; this is what zr takes:\n{HELP.rstrip()}")

@@ -11,12 +11,17 @@ import subprocess
 import sys
 from typing import Dict, Iterator, List, Set
 
-from files import Failed
+from files import ENDINGS, Failed
 
 REPOSITORY = os.path.dirname(os.path.dirname(os.path.dirname(os.path.realpath(__file__))))
 PROGRAM = os.path.join(REPOSITORY, "target", "bin", "zr")
 BUILT = os.path.join(REPOSITORY, "target", "zr.built")
 LOG = os.path.join(REPOSITORY, "target", "zr.log")
+
+
+def version() -> str:
+    with open(os.path.join(REPOSITORY, "VERSION"), encoding="utf-8") as text:
+        return text.read().strip()
 
 
 def crates() -> Set[str]:
@@ -77,7 +82,7 @@ def prove() -> None:
     """Has the program proved and built. hosts/prove shows how far it is, and clears up after Ctrl-C, so that it is left to end by itself."""
     print("zr: the command is proved and built first; this takes minutes, once", file=sys.stderr, flush=True)
     process = subprocess.Popen([os.path.join(REPOSITORY, "hosts", "prove"), LOG, "check", "zr"], cwd=REPOSITORY, stdin=subprocess.DEVNULL, stdout=2)
-    before = {number: signal.signal(number, lambda got, _: process.send_signal(got) if got != signal.SIGINT else None) for number in (signal.SIGINT, signal.SIGTERM, signal.SIGHUP)}
+    before = {number: signal.signal(number, lambda got, _: process.send_signal(got)) for number in ENDINGS}
     status = process.wait()
     for number, handler in before.items():
         signal.signal(number, handler)

@@ -1,4 +1,4 @@
-// The coder for people at a shell: `zr help` says what it takes.
+// The coder for people at a shell. The launcher, `zr` at the top of the repository, starts it and says what it takes.
 mod captures;
 mod places;
 
@@ -11,7 +11,6 @@ enum Command {
     Edit,
     Convert(bool),
     Runs,
-    Help,
     Unknown,
 }
 
@@ -35,9 +34,6 @@ fn command_of(word: &[u8], arguments: usize) -> Command {
     if check::same(word, b"runs") && arguments == 3 {
         return Command::Runs;
     }
-    if check::same(word, b"help") {
-        return Command::Help;
-    }
     Command::Unknown
 }
 
@@ -51,7 +47,6 @@ fn main() {
         Command::Edit => captures::edit(),
         Command::Convert(unmapping) => places::convert(unmapping),
         Command::Runs => places::runs(),
-        Command::Help => said::help(),
         Command::Unknown => said::unknown(),
     }
 }

@@ -130,25 +130,7 @@ fn say_word(k: usize, word: u64) {
     say_number(word);
 }
 
+// What a command takes is said by the launcher, which counts the arguments before the program is started.
 pub fn unknown() {
-    say(b"failed: no such command, or not the arguments that it takes; this is what zr takes:\n");
-    help();
-}
-
-pub fn help() {
-    say(
-        b"\
-        zr code  N M0 INFO PARITY CAPTURE        codes N super frames into the file CAPTURE\n\
-        zr read  N M0 CAPTURE INFO PARITY        reads them back and repairs one wrong bit in each word\n\
-        zr edit  N BLOCK BITS PARITY CAPTURE OUT replaces a client block and its FEC block's parity, and lists the words\n\
-        zr map   C F N GROUPS WINDOW             puts data groups into the window of N places from place F on\n\
-        zr unmap C F N WINDOW GROUPS             takes them out again\n\
-        zr runs  C                               lists the runs of data and stuff places under the count C\n\
-        zr help                                  this text\n\
-        \n\
-        N is 1 to 8 super frames and M0, where the FEC blocks count from, 0 to 63. INFO has 152915 bytes for each\n\
-        super frame, PARITY 10240, and CAPTURE 175616 and 7680 more. For an edit BLOCK is 0 to 4760 N - 1, BITS has 33 bytes\n\
-        (257 bits, seven zero bits) and PARITY 2048. C is 0 to 10220, F odd, N even. Files that are written stand last.\n\
-        An answer begins `done`, `refused` and a number of the scope's table, or `failed`. A refusal writes no file.\n",
-    );
+    say(b"failed: no such command, or not the arguments that it takes\n");
 }
