@@ -4,7 +4,7 @@
  * the top bit of the first byte. A buffer is a pointer and its length: in bytes, and for `list` in numbers of 64 bits.
  * A buffer of length 0 may be a null pointer. Two buffers of one call must not overlap where one of them is written.
  * The library keeps no state, allocates nothing and calls nothing back: any number of threads may use it at once, each
- * with ZR400_STACK_BYTES of stack for the call.
+ * with a stack of at least ZR400_STACK_BYTES.
  *
  * Every call answers a number. 0 is "done"; any other number is a refusal, and a refusal changes no byte of any buffer.
  *
@@ -46,7 +46,7 @@ extern "C" {
 #define ZR400_WINDOW_BYTES(n) ((size_t)257 * (n) / 2)                 /* n places, n even */
 #define ZR400_GROUPS_BYTES(d) (((size_t)257 * (d) + 1) / 2)           /* d data places */
 
-/* The stack that a call needs at the most. hosts/check measures every call and compares. */
+/* The stack of a thread that makes any of the calls, 384 KiB: hosts/check measures them all, in a thread. */
 #define ZR400_STACK_BYTES 393216u
 
 typedef struct { uint64_t number, place, count; } zr_answer;

@@ -60,7 +60,7 @@ def starter() -> List[str]:
     if rt is None:
         raise Failed("the command rt is not on the PATH, and the Rattle kit is needed to prove and build zr: put the folder bin of the kit on the PATH")
     guide = subprocess.run([rt, "doc"], check=True, stdout=subprocess.PIPE).stdout.decode().strip()
-    tools = os.path.join(os.path.dirname(os.path.dirname(os.path.realpath(guide))), "on", platform.machine(), "toolchain")
+    tools = os.path.join(os.path.dirname(os.path.dirname(guide)), "on", platform.machine(), "toolchain")
     emulator = os.path.join(tools, "bin", "qemu-x86_64")
     if os.access(emulator, os.X_OK):
         return [emulator, os.path.join(tools, "lib", "ld-linux-x86-64.so.2"), "--library-path", os.path.join(tools, "lib")]
