@@ -1,4 +1,4 @@
-"""The words of a command, its answer and its exit status."""
+"""The words of a command, its answer and its exit status. The script zr at the top of the repository starts it."""
 
 import os
 import re
@@ -201,3 +201,7 @@ def start(words: Sequence[str]) -> NoReturn:
         os.kill(os.getpid(), got)
         status = FAILED
     os._exit(status)  # standard output is flushed or cannot be; Python would say so once more
+
+
+if __name__ == "__main__":
+    start(sys.argv[1:])

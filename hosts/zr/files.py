@@ -200,12 +200,13 @@ class Output:
         except OSError as error:
             raise failed(self.name, "cannot be written", error)
 
-    def place(self) -> None:
-        """Puts the whole file under its name, in one step. What may be replaced is kept until all outputs are placed."""
+    def place(self, keep: bool) -> None:
+        """Puts the whole file under its name, in one step. Where another output comes later, what is replaced is kept until that is placed too."""
         both = {"src_dir_fd": self.folder, "dst_dir_fd": self.folder}
         try:
             if self.force:
-                self.keep_old()
+                if keep:
+                    self.keep_old()
                 os.replace(self.part, self.base, **both)
                 self.part = ""
             else:
@@ -215,7 +216,9 @@ class Output:
             raise failed(self.name, "cannot be written", error)
 
     def keep_old(self) -> None:
-        kept = f"{self.part}-old"
+        kept, folder = f"{self.part}-old", os.fstat(self.folder)
+        if self.old is None or (folder.st_mode & stat.S_ISVTX and os.geteuid() not in (0, folder.st_uid, self.old.st_uid)):
+            return  # another's file in a shared folder: it cannot be replaced, and a second name of it could not be removed
         try:
             os.link(self.base, kept, src_dir_fd=self.folder, dst_dir_fd=self.folder, follow_symlinks=False)
             self.kept = kept
@@ -245,8 +248,8 @@ class Output:
             try:
                 if name:
                     os.unlink(name, dir_fd=self.folder)
-            except FileNotFoundError:
-                pass
+            except OSError:
+                pass  # it is gone, or stays hidden; the answer is what counts
         try:
             if self.placed:
                 folder = os.open(".", os.O_RDONLY | os.O_DIRECTORY, dir_fd=self.folder)
@@ -297,9 +300,9 @@ def deliver(outputs: List[Output]) -> None:
             output.pour()
     before = signal.pthread_sigmask(signal.SIG_BLOCK, ENDINGS)
     try:
-        for output in outputs:
-            if not output.poured:
-                output.place()
+        named = [output for output in outputs if not output.poured]
+        for output in named:
+            output.place(keep=output is not named[-1])
     except Failed as error:
         left = [shown(output.name) for output in outputs if not output.undo()]
         raise Failed(f"{error}; {left[0]} is new already, and the old one could not be put back") if left else error

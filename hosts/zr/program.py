@@ -48,10 +48,10 @@ def files_of(folder: str) -> Iterator[str]:
 
 
 def sources() -> str:
-    """A digest that changes with any file that the program is made from."""
+    """A digest that changes with any file that the program is made from, and with the kind of machine."""
     lines = [line for crate in sorted(crates()) for line in files_of(os.path.join(REPOSITORY, "crates", crate))]
     known = os.stat(os.path.join(REPOSITORY, "crates.txt"))
-    return hashlib.sha256("\n".join([f"{known.st_size} {known.st_mtime_ns}", *lines]).encode("utf-8", "surrogateescape")).hexdigest()
+    return hashlib.sha256("\n".join([platform.machine(), f"{known.st_size} {known.st_mtime_ns}", *lines]).encode("utf-8", "surrogateescape")).hexdigest()
 
 
 def starter() -> List[str]:

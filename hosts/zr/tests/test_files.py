@@ -84,6 +84,20 @@ class Outputs(unittest.TestCase):
                 self.deliver(self.begun(True))
         self.holds({"first": b"new", "second": b"old"})
 
+    def test_anothers_file_in_a_shared_folder(self):
+        """Only its owner can replace it, and nobody else could remove a second name of it."""
+        self.old()
+        os.chmod(self.room.name, 0o1777)
+
+        def replace(*_, **__):
+            raise OSError(errno.EPERM, os.strerror(errno.EPERM))
+
+        with mock.patch("os.geteuid", lambda: os.stat(self.first).st_uid + 1), mock.patch("os.replace", replace), mock.patch("os.link") as link:
+            with self.assertRaisesRegex(Failed, "first cannot be written: Operation not permitted$"):
+                self.deliver(self.begun(True))
+        link.assert_not_called()
+        self.holds({"first": b"old", "second": b"old"})
+
     def test_not_on_the_disk(self):
         with mock.patch("os.fsync", refusing(os.fsync, 2)), self.assertRaisesRegex(Failed, "second cannot be written"):
             self.deliver(self.begun(False))
