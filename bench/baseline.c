@@ -23,6 +23,7 @@ enum {
     PAD_ELEMENTS = 6,
     ELEMENT_BITS = 119,
     FILLER = 480,
+    APART = 33, /* from the element of a slot to that of the next, within sixteen: the delay is shorter by 32 */
     EIGHT_BYTES = 119, /* eight elements */
     TAIL_EIGHTS = 18,  /* the tail and six elements more */
     PERIOD_BITS = 65535,
@@ -119,15 +120,17 @@ static void copy_bits(uint8_t *to, size_t at, const uint8_t *from, size_t start,
     uint8_t *t = to + at / 8;
     const uint8_t *s = from + start / 8;
     unsigned shift = start % 8;
-    size_t done = 0;
-    if (shift == 0 && count >= 8) {
-        memcpy(t, s, count / 8);
-        done = count / 8 * 8;
+    size_t bytes = count / 8, i = 0;
+    if (shift == 0 && bytes > 0) {
+        memcpy(t, s, bytes);
+        i = bytes;
     }
-    for (; count - done >= 64; done += 64, t += 8, s += 8)
-        store(t, load(s) << shift | s[8] >> (8 - shift));
-    for (; done < count; done++)
-        set_bit(to, at + done, get_bit(from, start + done));
+    for (; i + 8 <= bytes; i += 8)
+        store(t + i, load(s + i) << shift | s[i + 8] >> (8 - shift));
+    for (; i < bytes; i++)
+        t[i] = (uint8_t)(s[i] << shift | s[i + 1] >> (8 - shift));
+    for (i = 8 * bytes; i < count; i++)
+        set_bit(to, at + i, get_bit(from, start + i));
 }
 
 static void clear_bits(uint8_t *to, size_t at, size_t count)
@@ -140,17 +143,6 @@ static void clear_bits(uint8_t *to, size_t at, size_t count)
 }
 
 /* ---- check bits */
-
-/* Of one word: bits 0..8 are the nine. */
-static inline unsigned check_bits(struct word w)
-{
-    unsigned sum = 0;
-    for (unsigned k = 0; k < 8; k++)
-        sum ^= tail_of[k][w.high >> (56 - 8 * k) & 255];
-    for (unsigned k = 8; k < 15; k++)
-        sum ^= tail_of[k][w.low >> (120 - 8 * k) & 255];
-    return sum;
-}
 
 /* Nine check bits of eight words: the first as the lowest bit of each byte, the others as bytes. */
 struct nine {
@@ -225,14 +217,13 @@ static inline void transpose(uint64_t m[8])
         }
 }
 
-/* Slots w .. w + 7 of eight hold the elements at `first`, and each further one the element 33 behind: 32 for the delay that is
- * shorter by 32, and one. */
-static inline void code_eight(const struct word *first, uint8_t *capture)
+/* The rows of the words of eight elements that stand `apart` from each other. */
+static inline void rows_of(const struct word *first, size_t apart, uint64_t row[16])
 {
-    uint64_t high[8], low[8], row[16];
+    uint64_t high[8], low[8];
     for (unsigned r = 0; r < 8; r++) {
-        high[r] = first[33 * r].high;
-        low[r] = first[33 * r].low;
+        high[r] = first[apart * r].high;
+        low[r] = first[apart * r].low;
     }
     transpose(high);
     transpose(low);
@@ -243,10 +234,9 @@ static inline void code_eight(const struct word *first, uint8_t *capture)
     struct nine made = check_bits_of_eight(row);
     row[14] = (row[14] & LANES(0xfe)) | made.first;
     row[15] = made.others;
-    memcpy(capture, row, sizeof row);
 }
 
-static inline void words_of(const uint64_t row[16], struct word *first)
+static inline void words_of(const uint64_t row[16], struct word *first, size_t apart)
 {
     uint64_t high[8], low[8];
     for (unsigned k = 0; k < 8; k++) {
@@ -256,7 +246,7 @@ static inline void words_of(const uint64_t row[16], struct word *first)
     transpose(high);
     transpose(low);
     for (unsigned r = 0; r < 8; r++)
-        first[33 * r] = (struct word){high[r], low[r]};
+        first[apart * r] = (struct word){high[r], low[r]};
 }
 
 static struct word get_word(const uint8_t *capture, size_t w)
@@ -270,38 +260,39 @@ static struct word get_word(const uint8_t *capture, size_t w)
     return word;
 }
 
-static void put_word(uint8_t *capture, size_t w, struct word word)
+/* Word r of eight rows goes to slot w. */
+static void put_word(uint8_t *capture, size_t w, const uint64_t row[16], size_t r)
 {
     uint8_t *t = capture + w / 8 * 128 + w % 8;
-    for (unsigned k = 0; k < 8; k++) {
-        t[8 * k] = (uint8_t)(word.high >> (56 - 8 * k));
-        t[64 + 8 * k] = (uint8_t)(word.low >> (56 - 8 * k));
-    }
+    const uint8_t *s = (const uint8_t *)row + r;
+    for (unsigned k = 0; k < 16; k++)
+        t[8 * k] = s[8 * k];
+}
+
+static int fails_a_check(const uint8_t *capture, size_t w)
+{
+    const uint8_t *s = capture + w / 8 * 128 + w % 8;
+    unsigned sum = (unsigned)(s[112] & 1) << 8 | s[120];
+    for (unsigned k = 0; k < 15; k++)
+        sum ^= tail_of[k][s[8 * k]];
+    return sum != 0;
 }
 
 static size_t slot_of(size_t e) { return e + 32 * (15 - e % 16); }
 
 /* ---- CRC */
 
-/* The remainder after one element more, from the remainder before it. */
+/* The remainder after one element more, from the remainder before it, whose four bytes are looked up last: the next step waits
+ * for them. */
 static inline uint32_t crc_step(uint32_t r, struct word e)
 {
     uint64_t high = e.high ^ (uint64_t)r << 32;
     uint32_t sum = 0;
-    for (unsigned k = 0; k < 8; k++)
-        sum ^= crc_of[k][high >> (56 - 8 * k) & 255];
-    for (unsigned k = 8; k < 15; k++)
+    for (unsigned k = 15; k-- > 8;)
         sum ^= crc_of[k][e.low >> (120 - 8 * k) & 255];
+    for (unsigned k = 8; k-- > 0;)
+        sum ^= crc_of[k][high >> (56 - 8 * k) & 255];
     return sum;
-}
-
-/* The CRC of FEC block i of a super frame, from its scrambled elements: what the scrambler adds to it is known. */
-static uint32_t crc_of_block(const struct word *e, size_t i)
-{
-    uint32_t r = 0xffffffffu;
-    for (size_t k = 0; k < INFO_ELEMENTS; k++)
-        r = crc_step(r, e[k]);
-    return ~(r ^ crc_of_keys[i]);
 }
 
 /* a times b modulo the CRC's polynomial. */
@@ -313,6 +304,18 @@ static uint32_t times(uint32_t a, uint32_t b)
         r ^= b >> i & 1 ? a : 0;
     }
     return r;
+}
+
+/* The CRC of FEC block i of a super frame, from its scrambled elements: what the scrambler adds to it is known. Two halves that do
+ * not wait for each other are faster than the whole. */
+static uint32_t crc_of_block(const struct word *e, size_t i)
+{
+    uint32_t first = 0xffffffffu, second = 0;
+    for (size_t k = 0; k < INFO_ELEMENTS / 2; k++) {
+        first = crc_step(first, e[k]);
+        second = crc_step(second, e[INFO_ELEMENTS / 2 + k]);
+    }
+    return ~(times(first, power_of[INFO_ELEMENTS / 2]) ^ second ^ crc_of_keys[i]);
 }
 
 /* ---- tables */
@@ -539,8 +542,11 @@ static void fill_block(struct word *e, size_t i, uint64_t mbas, const uint8_t *i
 /* The first `count` slots that leave, where e begins with what is still delayed of the super frame before. */
 static void code_slots(const struct word *e, size_t count, uint8_t *capture)
 {
-    for (size_t w = 0; w < count; w += 8)
-        code_eight(e + w + 32 * (w % 16), capture + 16 * w);
+    uint64_t row[16];
+    for (size_t w = 0; w < count; w += 8) {
+        rows_of(e + w + 32 * (w % 16), APART, row);
+        memcpy(capture + 16 * w, row, sizeof row);
+    }
 }
 
 zr_answer zr400_code(uint64_t n, uint64_t m0, const uint8_t *info, size_t info_length, const uint8_t *parity,
@@ -579,16 +585,17 @@ static void note(struct found *found, unsigned number, uint64_t place)
         found->first[number] = place;
 }
 
-/* The word repaired, where its check bits differ from those of its element by `other`. */
-static struct word repaired(struct word word, unsigned other, size_t w, struct found *found)
+/* Repairs eight words whose check bits differ from those of their elements by `other`. */
+static void repair_eight(struct word *first, struct nine other, size_t w, struct found *found)
 {
-    struct word flip = flip_of[other];
-    if (other == 0)
-        return word;
-    found->repaired++;
-    if ((flip.high | flip.low) == 0)
-        note(found, 4, w);
-    return add(word, flip);
+    for (unsigned r = 0; r < 8; r++) {
+        unsigned nine = (unsigned)((other.first >> 8 * r & 1) << 8 | (other.others >> 8 * r & 255));
+        struct word flip = flip_of[nine];
+        first[33 * r] = add(first[33 * r], flip);
+        found->repaired += nine != 0;
+        if (nine != 0 && (flip.high | flip.low) == 0)
+            note(found, 4, w + r);
+    }
 }
 
 /* Slots w .. w + 7 to their elements, the first at `first`, each further one 33 behind; unchecked where nothing is to be found. */
@@ -596,17 +603,13 @@ static inline void read_eight(const uint8_t *capture, size_t w, struct word *fir
 {
     uint64_t row[16];
     memcpy(row, capture + 16 * w, sizeof row);
-    words_of(row, first);
+    words_of(row, first, APART);
     if (found == NULL)
         return;
     struct nine made = check_bits_of_eight(row);
-    uint64_t one = (made.first ^ row[14]) & LANES(1), eight = made.others ^ row[15];
-    if ((one | eight) == 0)
-        return;
-    for (unsigned r = 0; r < 8; r++) {
-        unsigned other = (unsigned)((one >> 8 * r & 1) << 8 | (eight >> 8 * r & 255));
-        first[33 * r] = repaired(first[33 * r], other, w + r, found);
-    }
+    struct nine other = {(made.first ^ row[14]) & LANES(1), made.others ^ row[15]};
+    if ((other.first | other.others) != 0)
+        repair_eight(first, other, w, found);
 }
 
 /* Slots w .. w + count - 1, to e and up to 480 elements behind it. */
@@ -743,10 +746,10 @@ static size_t add_sorted(uint64_t *list, size_t count, uint64_t w)
     return count + 1;
 }
 
-/* How many of a sixteen's words have an element before `end`, where `from` is the element of the first if none were delayed. */
-static size_t words_before(size_t end, size_t from)
+/* Slot w + r of a sixteen holds element w + 33 * r - 480: how many of them are before element `end` - 480. */
+static size_t words_before(size_t end, size_t w)
 {
-    size_t count = end > from ? (end - from + 32) / 33 : 0;
+    size_t count = end > w ? (end - w + APART - 1) / APART : 0;
     return count < 16 ? count : 16;
 }
 
@@ -769,28 +772,30 @@ static struct word get_element(const uint8_t *capture, uint64_t f, size_t e)
     return add(get_word(capture, slot_of(ELEMENTS * f + e)), key_of[e % KEYS]);
 }
 
-static void put_element(uint8_t *capture, uint64_t f, size_t e, struct word element)
+/* Elements e .. e + count - 1 of super frame f, at most eight. */
+static void put_elements(uint8_t *capture, uint64_t f, size_t e, struct word eight[8], size_t count)
 {
-    struct word word = add(element, key_of[e % KEYS]);
-    word.low = (word.low & ~(uint64_t)511) | check_bits(word);
-    put_word(capture, slot_of(ELEMENTS * f + e), word);
+    uint64_t row[16];
+    scramble_eight(eight, eight, e);
+    rows_of(eight, 1, row);
+    for (size_t r = 0; r < count; r++)
+        put_word(capture, slot_of(ELEMENTS * f + e + r), row, r);
 }
 
 /* Puts the client block in; the answer is what it changes the CRC by. */
 static uint32_t write_head(struct site s, const uint8_t *bits, uint8_t *capture)
 {
-    struct word old[8] = {{0, 0}}, new[8];
+    struct word old[8] = {{0, 0}}, fresh[8];
     uint8_t bytes[EIGHT_BYTES];
     uint32_t change = 0;
     for (size_t i = 0; i < s.head_count; i++)
         old[i] = get_element(capture, s.f, s.head + i);
     put_eight(bytes, old);
     copy_bits(bytes, CLIENT_BITS * s.within % ELEMENT_BITS, bits, 0, CLIENT_BITS);
-    cut_eight(bytes, new);
-    for (size_t i = 0; i < s.head_count; i++) {
-        change = crc_step(change, add(old[i], new[i]));
-        put_element(capture, s.f, s.head + i, new[i]);
-    }
+    cut_eight(bytes, fresh);
+    for (size_t i = 0; i < s.head_count; i++)
+        change = crc_step(change, add(old[i], fresh[i]));
+    put_elements(capture, s.f, s.head, fresh, s.head_count);
     return times(change, power_of[s.after]);
 }
 
@@ -800,10 +805,9 @@ static void write_tail(struct site s, uint32_t change, const uint8_t *parity, ui
     struct word eight[8];
     uint64_t field = get_element(capture, s.f, s.tail).high;
     fill_tail(&tail, (uint32_t)(field >> 32) ^ change, field >> 26 & 63, parity);
-    for (size_t k = 0; k < TAIL_ELEMENTS; k++) {
-        if (k % 8 == 0)
-            cut_eight(tail.bytes + EIGHT_BYTES * (k / 8), eight);
-        put_element(capture, s.f, s.tail + k, eight[k % 8]);
+    for (size_t k = 0; k < TAIL_ELEMENTS; k += 8) {
+        cut_eight(tail.bytes + EIGHT_BYTES * (k / 8), eight);
+        put_elements(capture, s.f, s.tail + k, eight, k + 8 <= TAIL_ELEMENTS ? 8 : TAIL_ELEMENTS - k);
     }
 }
 
@@ -820,11 +824,9 @@ zr_answer zr400_edit(uint64_t n, uint64_t block, const uint8_t *bits, size_t bit
     struct site s = site_of(block);
     uint64_t words[ZR400_LIST_LENGTH];
     size_t count = list_words(s, words);
-    for (size_t i = 0; i < count; i++) {
-        struct word word = get_word(capture, words[i]);
-        if (check_bits(word) != (word.low & 511))
+    for (size_t i = 0; i < count; i++)
+        if (fails_a_check(capture, words[i]))
             return refused(9, words[i]);
-    }
     write_tail(s, write_head(s, bits, capture), parity, capture);
     memcpy(list, words, count * sizeof *list);
     return done(count);
