@@ -1,10 +1,10 @@
 /* A plain C coder: the functions of hosts/c/zr400.h as a C programmer would write them for speed, with no proofs and no
  * vector instructions written out. bench/run holds the proved library against it, and hosts/build --plain makes the library
  * from it, to try the hosts without proving anything. Its tables are filled once, when the program is loaded; after that it
- * keeps no state. It is for machines whose numbers begin with their lowest byte, as those of x86-64 do.
+ * keeps no state. It is for machines that store the lowest byte of a number first, as x86-64 does.
  *
  * A word is two numbers of 64 bits. The words of a super frame stand in one array, in the order of elements; eight at a time
- * they change between this and the order of the capture, where their sixteen rows of eight bytes are numbers too. */
+ * they change between this and the order of the capture, whose sixteen rows of eight bytes are numbers too. */
 #include "zr400.h"
 
 #include <string.h>
@@ -39,7 +39,8 @@ struct word {
 };
 
 static uint16_t tail_of[15][256];         /* what byte k of an element adds to its nine check bits */
-static struct word flip_of[512];          /* the bit to be turned where nine check bits differ; none where beyond repair */
+static struct word flip_of[512];          /* the bit to be turned where nine check bits differ by so much */
+static uint8_t is_beyond[512];            /* whether that is beyond repair: then no bit is turned */
 static uint32_t crc_of[15][256];          /* what byte k of an element adds to the remainder */
 static uint32_t power_of[INFO_ELEMENTS];  /* x to the power of so many elements' bits */
 static struct word key_of[KEYS + 7];      /* the scrambler, cut into elements; eight in a row never run over the end */
@@ -149,8 +150,8 @@ struct nine {
     uint64_t first, others;
 };
 
-/* The rows that the 128 columns would have in the order g(0), g(1), .. of 001 section 10.5, zero where check bits belong. The
- * order of the code leaves out nine columns on the way, so that bits stand one to six places too early. */
+/* The rows with their bits in the order g(0), g(1), .. of 001 section 10.5, and zero for the check bits. A word has the
+ * columns of its check bits taken out and put last, so that in it the others stand up to six bits earlier. */
 static inline void in_order(const uint64_t row[16], uint64_t g[16])
 {
     for (unsigned k = 0; k < 7; k++)
@@ -165,7 +166,8 @@ static inline void in_order(const uint64_t row[16], uint64_t g[16])
     g[15] = (row[14] & LANES(8)) << 4 | (row[14] & LANES(4)) << 3 | (row[14] & LANES(2)) << 2;
 }
 
-/* Halves the bits whose sums are wanted: those of a go to the places of `mask`, those of b to the others. */
+/* A step in summing the bits of each byte, of two rows at once: the sums of a go to the bits of `mask`, those of b to the
+ * others. Three steps make one byte of the bytes of eight rows a .. h, its bits being the sums of a, e, c, g, b, f, d, h. */
 static inline uint64_t halve(uint64_t a, uint64_t b, unsigned shift, uint64_t mask)
 {
     return ((a ^ a << shift) & mask) | ((b ^ b >> shift) & ~mask);
@@ -176,9 +178,10 @@ static inline uint64_t halve_four(uint64_t a, uint64_t b, uint64_t c, uint64_t d
     return halve(halve(a, b, 4, LANES(0xf0)), halve(c, d, 4, LANES(0xf0)), 2, LANES(0xcc));
 }
 
-/* The bits of i are four of the checks where they choose a row, three where they choose a bit of it; solved for the nine that are
- * missing, check bit by check bit: the sums over the rows without 8, 4, 2 and 1 in their number, then over parts of the sum of all
- * rows, and the last makes up for the others. */
+/* Column g(i) is made of the seven bits of i, a bit that depends on the lowest three, and a one. So a check is the sum over
+ * rows, four bits of i being the number k of the row, or over some bits of all rows. The nine equations solved, the check
+ * bits are: the sums over the rows whose k has no 8, no 4, no 2, no 1; over the bits c0, 30, 0c and aa of all rows; and what
+ * remains. */
 static inline struct nine check_bits_of_eight(const uint64_t row[16])
 {
     uint64_t g[16], no8 = 0, no4 = 0;
@@ -192,9 +195,9 @@ static inline struct nine check_bits_of_eight(const uint64_t row[16])
         g[k] ^= g[k + 4];
     }
     uint64_t no2 = g[0] ^ g[1], no1 = g[0] ^ g[2], all = no1 ^ g[1] ^ g[3];
-    uint64_t last = no8 ^ no4 ^ no2 ^ no1 ^ (all & LANES(0xa9));
+    uint64_t remains = no8 ^ no4 ^ no2 ^ no1 ^ (all & LANES(0xa9));
     uint64_t odd = halve_four(no4, all & LANES(0x30), no1, all & LANES(0xaa));
-    uint64_t even = halve_four(no2, all & LANES(0x0c), all & LANES(0xc0), last);
+    uint64_t even = halve_four(no2, all & LANES(0x0c), all & LANES(0xc0), remains);
     no8 ^= no8 >> 4;
     no8 ^= no8 >> 2;
     return (struct nine){(no8 ^ no8 >> 1) & LANES(1), halve(odd, even, 1, LANES(0xaa))};
@@ -306,8 +309,8 @@ static uint32_t times(uint32_t a, uint32_t b)
     return r;
 }
 
-/* The CRC of FEC block i of a super frame, from its scrambled elements: what the scrambler adds to it is known. Two halves that do
- * not wait for each other are faster than the whole. */
+/* The CRC of FEC block i of a super frame, from its scrambled elements: what the scrambler adds to it is known. Two halves
+ * that do not wait for each other are faster than the whole. */
 static uint32_t crc_of_block(const struct word *e, size_t i)
 {
     uint32_t first = 0xffffffffu, second = 0;
@@ -353,8 +356,11 @@ static void make_words(void)
 {
     uint16_t tails[128];
     make_tails(tails);
-    for (unsigned i = 0; i < 128; i++)
+    memset(is_beyond + 1, 1, 511);
+    for (unsigned i = 0; i < 128; i++) {
         flip_of[tails[i]] = i < 64 ? (struct word){(uint64_t)1 << (63 - i), 0} : (struct word){0, (uint64_t)1 << (127 - i)};
+        is_beyond[tails[i]] = 0;
+    }
     for (unsigned i = 0; i < ELEMENT_BITS; i++)
         for (unsigned b = 0; b < 256; b++)
             if (b >> (7 - i % 8) & 1)
@@ -522,8 +528,8 @@ static void fill_tail(struct tail *tail, uint32_t crc, uint64_t mbas, const uint
     memset(t + PARITY_BYTES + 8, 0, sizeof tail->bytes - PARITY_BYTES - 12);
 }
 
-/* FEC block i of a super frame, scrambled, at its elements e. The eighteen eights at its end are six elements more than it has:
- * after the fifth FEC block these are the pad, and after another the next one's, which come later. */
+/* FEC block i of a super frame, scrambled, to its elements e. The eighteen eights at its end are six elements more than it
+ * has: behind the fifth FEC block these are the pad, and behind another the next FEC block will overwrite them. */
 static void fill_block(struct word *e, size_t i, uint64_t mbas, const uint8_t *info, const uint8_t *parity)
 {
     struct word eight[8];
@@ -539,7 +545,7 @@ static void fill_block(struct word *e, size_t i, uint64_t mbas, const uint8_t *i
     }
 }
 
-/* The first `count` slots that leave, where e begins with what is still delayed of the super frame before. */
+/* The next `count` slots, where e begins with the 480 elements before the super frame. */
 static void code_slots(const struct word *e, size_t count, uint8_t *capture)
 {
     uint64_t row[16];
@@ -590,15 +596,14 @@ static void repair_eight(struct word *first, struct nine other, size_t w, struct
 {
     for (unsigned r = 0; r < 8; r++) {
         unsigned nine = (unsigned)((other.first >> 8 * r & 1) << 8 | (other.others >> 8 * r & 255));
-        struct word flip = flip_of[nine];
-        first[33 * r] = add(first[33 * r], flip);
+        first[APART * r] = add(first[APART * r], flip_of[nine]);
         found->repaired += nine != 0;
-        if (nine != 0 && (flip.high | flip.low) == 0)
+        if (is_beyond[nine])
             note(found, 4, w + r);
     }
 }
 
-/* Slots w .. w + 7 to their elements, the first at `first`, each further one 33 behind; unchecked where nothing is to be found. */
+/* Slots w .. w + 7 to their elements, the first of them at `first`; unchecked where nothing is to be found any more. */
 static inline void read_eight(const uint8_t *capture, size_t w, struct word *first, struct found *found)
 {
     uint64_t row[16];
@@ -612,14 +617,15 @@ static inline void read_eight(const uint8_t *capture, size_t w, struct word *fir
         repair_eight(first, other, w, found);
 }
 
-/* Slots w .. w + count - 1, to e and up to 480 elements behind it. */
+/* Slots w .. w + count - 1 to their elements, which are those from e on and up to 480 more. */
 static void read_slots(const uint8_t *capture, size_t w, size_t count, struct word *e, struct found *found)
 {
     for (size_t k = 0; k < count; k += 8)
         read_eight(capture, w + k, e + k + 32 * (k % 16), found);
 }
 
-/* The 480 slots from w on were read to e: those of them that belong to no element, which are before or behind the elements. */
+/* The 480 slots from w on have been read to e: looks at those that no element fills, which stand in one half of what was
+ * read. */
 static void look_at_filler(const struct word *e, size_t w, int behind, struct found *found)
 {
     for (size_t k = 0; k < FILLER; k++) {
@@ -670,7 +676,7 @@ static void write_frame(const struct word *e, uint64_t f, uint8_t *info, uint8_t
         write_block(e + BLOCK_ELEMENTS * i, i, info + INFO_BYTES * (5 * f + i), parity + PARITY_BYTES * (5 * f + i));
 }
 
-/* The first 480 slots, which have the elements of the first super frame that are not delayed for long. */
+/* The first 480 slots: filler, and elements of the first super frame, which then stand where it will be read to. */
 static void read_start(const uint8_t *capture, struct word *e, struct found *found)
 {
     read_slots(capture, 0, FILLER, e, found);
@@ -679,7 +685,7 @@ static void read_start(const uint8_t *capture, struct word *e, struct found *fou
     memcpy(e, e + FILLER, FILLER * sizeof *e);
 }
 
-/* Everything is looked at first. What is left in e then is the last super frame; the others are read again to be written. */
+/* Looks at the whole capture; e has the last super frame then. */
 static void look(const uint8_t *capture, uint64_t n, uint64_t m0, struct word *e, struct found *found)
 {
     read_start(capture, e, found);
@@ -708,6 +714,7 @@ zr_answer zr400_read(uint64_t n, uint64_t m0, const uint8_t *capture, size_t cap
     for (unsigned number = 4; number < 9; number++)
         if (found.first[number] != UINT64_MAX)
             return refused(number, found.first[number]);
+    /* All super frames but the last are read again, and checked only where there is anything to repair. */
     struct found again = found;
     struct found *repairs = found.repaired == 0 ? NULL : &again;
     write_frame(e, n - 1, info, parity);
@@ -723,10 +730,11 @@ zr_answer zr400_read(uint64_t n, uint64_t m0, const uint8_t *capture, size_t cap
 
 /* ---- edits */
 
-/* Where an edit works: the elements of the client block and those of CRC, MBAS and parity, from the start of super frame f on. */
+/* Where an edit works: super frame f, in it the elements of the client block (head) and those of CRC, MBAS and parity (tail),
+ * and how many elements of information there are behind the head. */
 struct site {
     uint64_t f, within;
-    size_t head, head_count, tail, after; /* `after`: elements of information behind the head */
+    size_t head, head_count, tail, after;
 };
 
 static struct site site_of(uint64_t block)
@@ -737,6 +745,7 @@ static struct site site_of(uint64_t block)
     return (struct site){t / 5, within, start + first, last - first + 1, start + INFO_ELEMENTS, INFO_ELEMENTS - 1 - last};
 }
 
+/* Puts w into a rising list; where it is the largest this takes one look. */
 static size_t add_sorted(uint64_t *list, size_t count, uint64_t w)
 {
     size_t at = count;

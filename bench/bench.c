@@ -1,6 +1,6 @@
 /* Times the library (zr400_..) and the plain C coder (plain_..) on the same input, one after the other, and compares what
- * they give. bench/run builds and starts it. With the word `count` it works once on one super frame instead, and marks where each
- * task ends for an emulator that counts. */
+ * they give. bench/run builds and starts it. With the word `count` it works once on one super frame instead, and marks where
+ * each task ends for an emulator that counts. */
 #include "zr400.h"
 
 #include <stdio.h>
@@ -70,7 +70,8 @@ static void expect(zr_answer a, uint64_t count)
 
 static void code_to(code_call *call, uint8_t *to)
 {
-    expect(call(n, M0, info, ZR400_INFORMATION_BYTES(n), parity, ZR400_PARITY_BYTES(n), to, ZR400_CAPTURE_BYTES(n)), ZR400_WORDS(n));
+    zr_answer a = call(n, M0, info, ZR400_INFORMATION_BYTES(n), parity, ZR400_PARITY_BYTES(n), to, ZR400_CAPTURE_BYTES(n));
+    expect(a, ZR400_WORDS(n));
 }
 
 static double code(const struct coder *c, int which)
@@ -81,9 +82,9 @@ static double code(const struct coder *c, int which)
 
 static double read_from(const struct coder *c, int which, const uint8_t *from, uint64_t count)
 {
-    expect(c->read(n, M0, from, ZR400_CAPTURE_BYTES(n), out_info[which], ZR400_INFORMATION_BYTES(n), out_parity[which],
-                   ZR400_PARITY_BYTES(n)),
-           count);
+    zr_answer a = c->read(n, M0, from, ZR400_CAPTURE_BYTES(n), out_info[which], ZR400_INFORMATION_BYTES(n), out_parity[which],
+                          ZR400_PARITY_BYTES(n));
+    expect(a, count);
     return ZR400_CAPTURE_BYTES(n) / 1e6;
 }
 
@@ -144,8 +145,8 @@ static void mark(void)
         stop("no mark could be written");
 }
 
-/* Names the tasks; then, between marks: nothing, a thousand instructions, each task by the library and by the plain C coder. What
- * is counted for the first two tells what a mark takes, and whether it is instructions that are counted. */
+/* Names the tasks; then, between marks: nothing, a thousand instructions, each task by the library and by the plain C coder.
+ * What is counted for the first two tells what a mark takes, and whether it is instructions that are counted. */
 static void run_marked(void)
 {
     for (int k = 0; k < 4; k++)
