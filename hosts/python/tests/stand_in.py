@@ -1,9 +1,12 @@
 """The program of common.StandIn, which says what the steps are: stand_in.py FOLDER PLAN.."""
 
+import fcntl
 import os
 import signal
 import struct
 import sys
+import termios
+import time
 
 # For each call, from which buffer on it may write, as in hosts/c/worker.c.
 WRITTEN = (0, 0, 1, 1, 1, 2, 1, 2)
@@ -12,6 +15,14 @@ WRITTEN = (0, 0, 1, 1, 1, 2, 1, 2)
 def put(data):
     sys.stdout.buffer.write(data)
     sys.stdout.buffer.flush()
+
+
+def wait_until_taken():
+    """The caller has taken all that was put: the pipe is empty."""
+    left = b"...."
+    while any(left):
+        left = fcntl.ioctl(1, termios.FIONREAD, b"....")
+        time.sleep(0.001)
 
 
 def answer_call(step, folder):
@@ -29,6 +40,7 @@ def answer_call(step, folder):
     if step in ("cut", "interrupt"):
         put(answer[: len(answer) - 1])
         if step == "interrupt":
+            wait_until_taken()
             os.kill(os.getppid(), signal.SIGINT)
             sys.stdin.buffer.read()
         os._exit(4)

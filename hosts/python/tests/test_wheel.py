@@ -32,7 +32,8 @@ ON_ARM = "import platform; platform.machine = lambda: 'aarch64'\n"
 NEEDS = r"OSError: zr400 is made for x86-64, and on this machine \(\w+\) it needs the Rattle kit.*the kit's command rt is not on the PATH"
 
 
-def without_kit(path):
+def plain_environment(path):
+    """The environment with that PATH, and with nothing that names a library or steers Python and pip."""
     kept = {name: value for name, value in os.environ.items() if not name.startswith(("ZR400_", "PYTHON", "PIP_"))}
     return {**kept, "PATH": path}
 
@@ -87,12 +88,16 @@ class Wheel(unittest.TestCase):
                 self.assertIn(f"\nTag: py3-none-{platform}\n", wheel.read(f"{TOLD}/WHEEL").decode())
 
     def runs(self, interpreter, found=""):
-        """It codes and reads, or says what it needs, in another folder and with no kit."""
-        nowhere = {"cwd": self.elsewhere, "environment": without_kit(self.elsewhere)}
-        ran = python("-I", "-c", found + CODES_AND_READS, interpreter=interpreter, **nowhere)
+        """It codes and reads, or says what it needs and does so when it has it, in another folder and with no kit at first."""
+
+        def ran_with(path):
+            program = found + CODES_AND_READS
+            return python("-I", "-c", program, interpreter=interpreter, cwd=self.elsewhere, environment=plain_environment(path))
+
+        ran = ran_with(self.elsewhere)
         if not _library.is_native():
             self.assertRegex(ran.stdout, NEEDS)
-            return
+            ran = ran_with(os.environ["PATH"])
         self.assertEqual(ran.returncode, 0, ran.stdout)
         information = bytes(k * 7 % 256 for k in range(zr400.information_length(1)))
         parity = bytes(k * 5 % 256 for k in range(zr400.parity_length(1)))
@@ -110,7 +115,7 @@ class Wheel(unittest.TestCase):
 
     def test_on_arm_it_says_what_it_needs(self):
         program = self.unpacked() + ON_ARM + CODES_AND_READS
-        ran = python("-I", "-c", program, cwd=self.elsewhere, environment=without_kit(self.elsewhere))
+        ran = python("-I", "-c", program, cwd=self.elsewhere, environment=plain_environment(self.elsewhere))
         self.assertEqual(ran.returncode, 1)
         self.assertRegex(ran.stdout, NEEDS)
 
@@ -126,7 +131,7 @@ class Wheel(unittest.TestCase):
             with open(path, "w", encoding="ascii") as script:
                 script.write(f"#!/bin/sh\n{line}\n")
             os.chmod(path, 0o755)
-        ran = python("-I", "-c", found + ON_ARM + CODES_AND_READS, environment=without_kit(self.elsewhere))
+        ran = python("-I", "-c", found + ON_ARM + CODES_AND_READS, environment=plain_environment(self.elsewhere))
         self.assertEqual(ran.returncode, 0, ran.stdout)
 
     def test_installed_by_pip(self):

@@ -148,7 +148,8 @@ def interrupted_at(step, call):
         # Not in the frames that take a lock: there a trace may raise where the interpreter itself never would.
         if frame.f_code.co_filename != _library.__file__ or frame.f_code.co_name not in ("_hand_over", "<listcomp>"):
             return None
-        frame.f_trace_opcodes = True
+        frame.f_trace, frame.f_trace_opcodes = take, True
+        sys.settrace(enter)  # Python 3.12 sees the wish for single steps only here
         return take
 
     def take(frame, event, _):

@@ -29,10 +29,10 @@ import reprlib
 from typing import Any, List, NamedTuple, Optional, Sequence, Sized, SupportsIndex, Tuple, TypeVar, overload
 
 from . import _library
-from ._library import Lent
+from ._library import Lent as _Lent
 
 __all__ = [
-    "PLACES", "Reading", "Refused", "Run", "__version__", "capture_length", "code", "edit", "groups_length", "information",
+    "PLACES", "Reading", "Refused", "Run", "capture_length", "code", "edit", "groups_length", "information",
     "information_length", "map_window", "parity_length", "read", "run", "runs", "unmap_window", "window_length", "words",
 ]
 
@@ -179,8 +179,8 @@ def map_window(
     c, f, n = _whole(c=c, f=f, n=n)
     if window is None:
         window = bytearray(window_length(n) if _is_window(c, f, n) else 0)
-    taken = Lent("groups", groups, groups_length(c, f, n))
-    _granted(_library.MAP, (c, f, n), (taken,), (Lent("window", window, window_length(n)),))
+    taken = _Lent("groups", groups, groups_length(c, f, n))
+    _granted(_library.MAP, (c, f, n), (taken,), (_Lent("window", window, window_length(n)),))
     return window
 
 
@@ -195,15 +195,15 @@ def unmap_window(
     c, f, n = _whole(c=c, f=f, n=n)
     if groups is None:
         groups = bytearray(groups_length(c, f, n) if _is_window(c, f, n) else 0)
-    taken = Lent("window", window, window_length(n))
-    _granted(_library.UNMAP, (c, f, n), (taken,), (Lent("groups", groups, groups_length(c, f, n)),))
+    taken = _Lent("window", window, window_length(n))
+    _granted(_library.UNMAP, (c, f, n), (taken,), (_Lent("groups", groups, groups_length(c, f, n)),))
     return groups
 
 
 def information(n: SupportsIndex, t: SupportsIndex, info: Buffer) -> memoryview:
     """The information of FEC block t (0..5 N - 1): that part of the lent buffer itself, 30,583 bytes, no copy."""
     n, t = _whole(n=n, t=t)
-    _granted(_library.INFORMATION, (n, t), (Lent("info", info, information_length(n)),))
+    _granted(_library.INFORMATION, (n, t), (_Lent("info", info, information_length(n)),))
     return memoryview(info).cast("B")[_BLOCK_BYTES * t : _BLOCK_BYTES * (t + 1)]
 
 
@@ -218,8 +218,8 @@ def code(
     n, m0 = _whole(n=n, m0=m0)
     if capture is None:
         capture = bytearray(capture_length(n) if _is_size(n) else 0)
-    taken = Lent("information", information, information_length(n)), Lent("parity", parity, parity_length(n))
-    _granted(_library.CODE, (n, m0), taken, (Lent("capture", capture, capture_length(n)),))
+    taken = _Lent("information", information, information_length(n)), _Lent("parity", parity, parity_length(n))
+    _granted(_library.CODE, (n, m0), taken, (_Lent("capture", capture, capture_length(n)),))
     return capture
 
 
@@ -232,8 +232,8 @@ def read(
         information = bytearray(information_length(n) if _is_size(n) else 0)
     if parity is None:
         parity = bytearray(parity_length(n) if _is_size(n) else 0)
-    given = Lent("information", information, information_length(n)), Lent("parity", parity, parity_length(n))
-    repaired = _granted(_library.READ, (n, m0), (Lent("capture", capture, capture_length(n)),), given)
+    given = _Lent("information", information, information_length(n)), _Lent("parity", parity, parity_length(n))
+    repaired = _granted(_library.READ, (n, m0), (_Lent("capture", capture, capture_length(n)),), given)
     return Reading(information, parity, repaired)
 
 
@@ -245,8 +245,8 @@ def edit(n: SupportsIndex, block: SupportsIndex, bits: Buffer, parity: Buffer, c
     """
     n, block = _whole(n=n, block=block)
     listed = array.array("Q", bytes(8 * _LIST_LENGTH))
-    taken = Lent("bits", bits, _CLIENT_BYTES), Lent("parity", parity, _BLOCK_PARITY_BYTES)
-    given = Lent("capture", capture, capture_length(n)), Lent("list", memoryview(listed).cast("B"), 8 * _LIST_LENGTH)
+    taken = _Lent("bits", bits, _CLIENT_BYTES), _Lent("parity", parity, _BLOCK_PARITY_BYTES)
+    given = _Lent("capture", capture, capture_length(n)), _Lent("list", memoryview(listed).cast("B"), 8 * _LIST_LENGTH)
     count = _granted(_library.EDIT, (n, block), taken, given)
     return listed[:count].tolist()
 
@@ -270,7 +270,7 @@ def _is_window(c: int, f: int, n: int) -> bool:
     return 0 <= c <= PLACES and f >= 1 and n >= 0 and f + n - 1 <= PLACES
 
 
-def _granted(which: int, numbers: Sequence[int], inputs: Sequence[Lent] = (), outputs: Sequence[Lent] = ()) -> int:
+def _granted(which: int, numbers: Sequence[int], inputs: Sequence[_Lent] = (), outputs: Sequence[_Lent] = ()) -> int:
     """The count of a call, or its refusal."""
     (number, place, count), lengths = _library.call(which, numbers, inputs, outputs)
     if number == 2:
