@@ -1,5 +1,5 @@
 /* The library as a process: reads calls from standard input and writes their answers to standard output, until the input
- * ends. hosts/python/zr400.py drives it where the library cannot be loaded into the interpreter itself.
+ * ends. hosts/python/zr400/_library.py drives it where the library cannot be loaded into the interpreter itself.
  *
  * A call is eight numbers: the call's own (the order of `shapes`), three numbers that are its arguments (unused ones 0), and
  * the lengths in bytes of its buffers (unused ones 0), then the bytes of all its buffers. The answer is three numbers, then the
