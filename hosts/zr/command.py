@@ -20,7 +20,8 @@ zr edit  N BLOCK BITS PARITY CAPTURE OUT replaces a client block and its FEC blo
 zr map   C F N GROUPS WINDOW             puts data groups into the window of N places from place F on
 zr unmap C F N WINDOW GROUPS             takes them out again
 zr runs  C                               lists the runs of data and stuff places under the count C
-zr help, zr --version                    this text; the version
+zr help                                  this text
+zr --version                             the version
 
 N is 1 to 8 super frames and M0, where the FEC blocks count from, 0 to 63. INFO has 152915 bytes for each
 super frame, PARITY 10240, and CAPTURE 175616 and 7680 more. For an edit BLOCK is 0 to 4760 N - 1, BITS has 33 bytes
