@@ -110,6 +110,20 @@ class Formats(unittest.TestCase):
             with self.assertRaisesRegex(TypeError, f"^{name} has items of format '<O' "):
                 call()
 
+    def test_no_loan_is_left(self):
+        wide, capture = array.array("H", bytes(8)), bytearray(8)
+        for call in (
+            lambda: zr400.map_window(0, 1, 2, b"", wide),
+            lambda: zr400.code(1, 7, b"", b"", capture),
+            lambda: zr400.code(1, 7, capture, b"", capture),
+        ):
+            try:
+                call()
+            except (TypeError, ValueError):
+                wide.append(0)  # while the error still holds on to where it was raised; a loan forbids this
+                capture.append(0)
+        self.assertEqual((len(wide), len(capture)), (7, 11))
+
     def test_inputs_of_any_numbers(self):
         information, parity, capture = coded(1)
 

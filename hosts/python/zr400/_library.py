@@ -70,7 +70,7 @@ _WRITABLE, _FORMAT, _C_CONTIGUOUS = 0x01, 0x04, 0x38
 # A field's name in a format may be any text, and says nothing of what its bytes are.
 _FIELD_NAME = re.compile(r":[^:]*:")
 # Numbers, characters and raw bytes, alone or in structures and arrays; no object and no pointer, whose bytes are an address.
-_PLAIN = re.compile(r"(?:[@=<>!^\s]|\(\d+(?:,\d+)*\)|\d+|T\{|\}|Z[fdg]|[?bBcsxphHiIlLqQnNefdgFDuw])*")
+_PLAIN = re.compile(r"(?:[@=<>!^\s]|\(\d+(?:,\d+)*\)|\d|T\{|\}|Z[fdg]|[?bBcsxphHiIlLqQnNefdgFDuw])*")
 _BYTES = re.compile(r"[@=<>!]?[Bbc]")
 
 
@@ -89,7 +89,11 @@ class Loan:
             raise kind(f"{name} cannot be lent: {error}") from None
         self.length: int = self._view.len
         self.address: int = (self._view.buf or 0) if self.length else 0
-        self._refuse_format()
+        try:
+            self._refuse_format()
+        except TypeError:
+            self.end()
+            raise
 
     def _refuse_format(self) -> None:
         form = (self._view.format or b"B").decode("utf-8", "replace")
