@@ -49,7 +49,7 @@ class Wheel(unittest.TestCase):
         self.elsewhere = folder_for(self)
 
     def made(self):
-        made = python(os.path.join(PYTHON, "wheel.py"), self.folder, cwd=self.elsewhere)
+        made = python(os.path.join(PYTHON, "make_wheel.py"), self.folder, cwd=self.elsewhere)
         self.assertEqual((made.returncode, made.stdout), (0, os.path.join(self.folder, NAME) + "\n"))
         return made.stdout.strip()
 

@@ -1,6 +1,6 @@
 """Makes the wheel of the package zr400 from the files in hosts/out, which hosts/build has made before.
 
-    python3 hosts/python/wheel.py FOLDER     writes the wheel into FOLDER, removes those of other versions there, prints its path
+    python3 hosts/python/make_wheel.py FOLDER     writes the wheel into FOLDER, removes those of other versions there, prints its path
     pip install hosts/python                 calls build_wheel (pyproject.toml)
 
 The same files give the same bytes: the zip has fixed times and modes, and its members are not compressed.
@@ -119,7 +119,7 @@ def _record(members: List[Member], name: str) -> Member:
 
 def main(words: List[str]) -> None:
     if len(words) != 1 or words[0].startswith("-"):
-        raise SystemExit("usage: python3 hosts/python/wheel.py FOLDER")
+        raise SystemExit("usage: python3 hosts/python/make_wheel.py FOLDER")
     folder = words[0]
     os.makedirs(folder, exist_ok=True)
     path = os.path.join(folder, build_wheel(folder))
