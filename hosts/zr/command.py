@@ -37,11 +37,11 @@ status is then 0, 1 or 2. Only what is done writes a file.
 
 
 class Auto(NamedTuple):
-    """How a file's size tells N: `each` bytes for `count` of them, behind `first`."""
+    """How a file's size tells N: `each` bytes for `units` of them, behind `first`."""
 
     role: str
     each: int
-    count: int
+    units: int
     first: int
     words: str
 
@@ -76,7 +76,7 @@ def told(auto: Auto, inputs: Sequence[Input]) -> str:
     has = f"more than {files.LONGEST}" if size is None else f"{size}"
     if size is None or size < auto.first or (size - auto.first) % auto.each:
         raise Failed(f"N cannot be told: {auto.role} has {has} bytes, and {auto.words} are wanted")
-    return str((size - auto.first) // auto.each * auto.count)
+    return str((size - auto.first) // auto.each * auto.units)
 
 
 class Command:
@@ -103,7 +103,7 @@ class Command:
         """Starts the proved program on descriptors, and delivers what it wrote where it says that it is done."""
         for output in self.outputs:
             output.begin()
-        handed = {each.descriptor: each.name for each in [*self.inputs, *self.outputs]}
+        handed = {**{i.descriptor: i.name for i in self.inputs}, **{o.descriptor: o.name for o in self.outputs}}
         words = [self.name, *self.numbers.values(), *(f"/proc/self/fd/{d}" for d in handed)]
         process = subprocess.Popen([*start, *words], stdin=subprocess.DEVNULL, stdout=subprocess.PIPE, stderr=subprocess.PIPE, pass_fds=list(handed))
         try:

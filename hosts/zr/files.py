@@ -7,7 +7,7 @@ import re
 import secrets
 import signal
 import stat
-from typing import Iterable, List, Optional, Sequence, Tuple
+from typing import Iterable, List, Optional, Sequence, Set, Tuple
 
 LONGEST = 1412608
 """The bytes of a capture of eight super frames. No other buffer is longer."""
@@ -34,7 +34,7 @@ def failed(name: str, what: str, error: OSError) -> Failed:
     return Failed(f"{shown(name)} {what}: {error.strerror}")
 
 
-closed = set()  # of standard input, output and error, those that were closed when the command began
+closed: Set[int] = set()  # of standard input, output and error, those that were closed when the command began
 
 
 def hold_standard() -> None:
@@ -113,7 +113,7 @@ class Output:
         if self.stream == 2:
             raise Failed(f"{shown(name)}: standard error is for answers, and data is never mixed with them")
         try:
-            self.old: Optional[os.stat_result] = os.fstat(self.stream) if self.is_stream else os.lstat(name)
+            self.old: Optional[os.stat_result] = os.lstat(name) if self.stream is None else os.fstat(self.stream)
         except FileNotFoundError:
             self.old = None
         except OSError as error:
@@ -202,15 +202,14 @@ class Output:
 
     def place(self, keep: bool) -> None:
         """Puts the whole file under its name, in one step. Where another output comes later, what is replaced is kept until that is placed too."""
-        both = {"src_dir_fd": self.folder, "dst_dir_fd": self.folder}
         try:
             if self.force:
                 if keep:
                     self.keep_old()
-                os.replace(self.part, self.base, **both)
+                os.replace(self.part, self.base, src_dir_fd=self.folder, dst_dir_fd=self.folder)
                 self.part = ""
             else:
-                link_new(self.part, self.base, both)
+                link_new(self.part, self.base, self.folder)
             self.placed = True
         except OSError as error:
             raise failed(self.name, "cannot be written", error)
@@ -259,16 +258,16 @@ class Output:
             pass  # a folder that may be written and not read
 
 
-def link_new(part: str, base: str, both: dict) -> None:
+def link_new(part: str, base: str, folder: int) -> None:
     """A new name for a whole file: what came under that name meanwhile is not replaced."""
     try:
-        os.link(part, base, **both)
+        os.link(part, base, src_dir_fd=folder, dst_dir_fd=folder)
     except OSError as error:
         if error.errno not in (errno.EPERM, errno.EOPNOTSUPP, errno.ENOSYS):
             raise
-        if os.access(base, os.F_OK, dir_fd=both["dst_dir_fd"], follow_symlinks=False):
+        if os.access(base, os.F_OK, dir_fd=folder, follow_symlinks=False):
             raise FileExistsError(errno.EEXIST, os.strerror(errno.EEXIST))
-        os.rename(part, base, **both)  # a disk without second names
+        os.rename(part, base, src_dir_fd=folder, dst_dir_fd=folder)  # a disk without second names
 
 
 def one_file(a: str, b: str) -> bool:

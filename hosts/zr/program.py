@@ -9,7 +9,7 @@ import shutil
 import signal
 import subprocess
 import sys
-from typing import Dict, Iterator, List, Set
+from typing import Iterator, List, NamedTuple, Set
 
 from files import ENDINGS, Failed
 
@@ -69,13 +69,21 @@ def starter() -> List[str]:
     return []
 
 
-def built() -> Dict[str, object]:
+class Built(NamedTuple):
+    """What was known when the program was built: its sources, and the words that start it on this machine."""
+
+    sources: str
+    starter: List[str]
+
+
+def built() -> Built:
+    nothing = Built("", [])
     try:
         with open(BUILT, encoding="utf-8") as text:
-            known = json.load(text)
-        return known if os.access(PROGRAM, os.X_OK) and all(os.path.exists(word) for word in known["starter"] if word[:1] == "/") else {}
-    except (OSError, ValueError, KeyError, TypeError):
-        return {}
+            known = Built(*json.load(text))
+        return known if os.access(PROGRAM, os.X_OK) and all(os.path.exists(word) for word in known.starter if word[:1] == "/") else nothing
+    except (OSError, ValueError, TypeError):
+        return nothing
 
 
 def prove() -> None:
@@ -98,11 +106,10 @@ def words() -> List[str]:
     if os.environ.get("ZR"):
         return starter() + [os.path.abspath(os.environ["ZR"])]
     now, known = sources(), built()
-    if known.get("sources") != now:
-        first = starter()
+    if known.sources != now:
+        known = Built(now, starter())
         prove()
-        known = {"sources": now, "starter": first}
         with open(f"{BUILT}.{os.getpid()}", "w", encoding="utf-8") as text:
             json.dump(known, text)
         os.replace(text.name, BUILT)
-    return [*known["starter"], PROGRAM]  # type: ignore[misc]
+    return [*known.starter, PROGRAM]
