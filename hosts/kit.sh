@@ -1,6 +1,7 @@
 # Sourced by the scripts of this repository: where the Rattle kit is, and how its compiler, linker and emulator are called.
 # It sets kit, tools (the compiler's folder for this machine) and emulator (empty on x86-64).
 
+unset CDPATH # which would have cd say where it went, or go elsewhere
 repository=$(cd "$(dirname "${BASH_SOURCE[0]}")/.." && pwd -P)
 version=$(cat "$repository/VERSION")
 soname=libzr400.so.${version%%.*}

@@ -1,4 +1,4 @@
-"""The words of a command, its answer and its exit status. The script zr at the top of the repository starts it."""
+"""The words of a command, its answer and its exit status."""
 
 import os
 import re
@@ -101,8 +101,7 @@ class Command:
 
     def run(self, start: List[str]) -> int:
         """Starts the proved program on descriptors, and delivers what it wrote where it says that it is done."""
-        for output in self.outputs:
-            output.begin()
+        files.begin(self.outputs)
         handed = {**{i.descriptor: i.name for i in self.inputs}, **{o.descriptor: o.name for o in self.outputs}}
         words = [self.name, *self.numbers.values(), *(f"/proc/self/fd/{d}" for d in handed)]
         process = subprocess.Popen([*start, *words], stdin=subprocess.DEVNULL, stdout=subprocess.PIPE, stderr=subprocess.PIPE, pass_fds=list(handed))
@@ -115,8 +114,8 @@ class Command:
         if process.returncode or not re.match(r"done|refused|failed|Cm ", answer):
             raise Failed(f"the program zr ended by {ending(process.returncode)}; nothing was written")
         if answer.startswith("failed"):
-            what, reason = answer[len("failed: ") :].split(",")[0].strip(), named_in(why, handed).strip().rpartition(": ")[2]
-            raise Failed(f"{what}: {reason}; nothing was written")
+            what, reason = said[len("failed: ") :].partition(b",")[0].strip(), why.decode().strip().rpartition(": ")[2]
+            raise Failed(f"{named_in(what, handed)}: {reason}; nothing was written")
         if answer.startswith("refused"):
             say(answer)
             return REFUSED
@@ -151,7 +150,7 @@ def say_data(text: str) -> None:
     if 1 in files.closed:
         raise Failed("standard output is closed")
     try:
-        print(text, end="", flush=True)
+        files.write_all(1, text.encode())
     except OSError as error:
         raise Failed(f"standard output cannot be written: {error.strerror}")
 
@@ -176,33 +175,39 @@ def done(words: Sequence[str]) -> int:
         command.open()
         return command.run(program.words())
     finally:
-        command.end()
+        try:
+            signal.pthread_sigmask(signal.SIG_BLOCK, files.ENDINGS)
+        finally:
+            command.end()
 
 
 def ended(got: int, _: object) -> NoReturn:
-    """A signal ends the command as an exception does, so that temporary files go; then it ends it as it would have."""
+    """A signal ends the command as an exception does, so that temporary files go; then it ends it as it would have. Others that come meanwhile change nothing."""
+    for each in files.ENDINGS:
+        signal.signal(each, lambda *_: None)
     raise KeyboardInterrupt(got)
 
 
+def end_by(got: int) -> None:
+    signal.signal(got, signal.SIG_DFL)
+    os.kill(os.getpid(), got)
+    signal.pthread_sigmask(signal.SIG_UNBLOCK, [got])
+
+
 def start(words: Sequence[str]) -> NoReturn:
-    files.hold_standard()
-    if 2 in files.closed:
-        sys.stderr = open(os.devnull, "w", encoding="utf-8")  # with none, Python would print answers among the data
-    for each in files.ENDINGS:
-        if signal.getsignal(each) != signal.SIG_IGN:
-            signal.signal(each, ended)
+    status = FAILED
     try:
+        signal.signal(signal.SIGCHLD, signal.SIG_DFL)  # where it is ignored, no program's status can be had
+        files.hold_standard()
+        if 2 in files.closed:
+            sys.stderr = open(os.devnull, "w", encoding="utf-8")  # with none, Python would print answers among the data
+        for each in files.ENDINGS:
+            if signal.getsignal(each) != signal.SIG_IGN:
+                signal.signal(each, ended)
+        signal.pthread_sigmask(signal.SIG_UNBLOCK, files.ENDINGS)
         status = done(words)
-    except Exception as error:  # whatever it is, it must not end with the status of a refusal, which is Python's own for an error
-        say(f"failed: {error if isinstance(error, (Failed, OSError)) else repr(error)}\n")
-        status = FAILED
     except KeyboardInterrupt as interrupt:
-        got = interrupt.args[0] if interrupt.args else signal.SIGINT
-        signal.signal(got, signal.SIG_DFL)
-        os.kill(os.getpid(), got)
-        status = FAILED
-    os._exit(status)  # standard output is flushed or cannot be; Python would say so once more
-
-
-if __name__ == "__main__":
-    start(sys.argv[1:])
+        end_by(interrupt.args[0] if interrupt.args else signal.SIGINT)
+    except Exception as error:  # whatever it is, it must not end with 1
+        say(f"failed: {error if isinstance(error, (Failed, OSError)) else repr(error)}\n")
+    os._exit(status)

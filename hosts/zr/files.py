@@ -5,6 +5,7 @@ import errno
 import os
 import re
 import secrets
+import select
 import signal
 import stat
 from typing import Iterable, List, Optional, Sequence, Set, Tuple
@@ -12,9 +13,9 @@ from typing import Iterable, List, Optional, Sequence, Set, Tuple
 LONGEST = 1412608
 """The bytes of a capture of eight super frames. No other buffer is longer."""
 
-STANDARD = re.compile(r"-|/dev/std(in|out|err)|/(?:dev|proc/self)/fd/(\d+)")
+STANDARD = re.compile(r"-|/dev/std(in|out|err)|/(?:dev|proc/self)/fd/([0-9]{1,9})")
 NULL_DEVICE = os.makedev(1, 3)
-ENDINGS = (signal.SIGINT, signal.SIGTERM, signal.SIGHUP)
+ENDINGS = (signal.SIGINT, signal.SIGTERM, signal.SIGHUP, signal.SIGQUIT, signal.SIGXCPU)
 
 
 class Failed(Exception):
@@ -23,11 +24,13 @@ class Failed(Exception):
 
 def shown(name: str) -> str:
     """A name as it can be printed anywhere: quoted where it holds more than plain letters, with its escapes written out, and cut where it is very long."""
-    text = os.fsencode(name).decode("utf-8", "backslashreplace")
+    text = os.fsencode(name).replace(b"\\", b"\\\\").decode("utf-8", "backslashreplace")
     plain = "".join(c if c.isprintable() else c.encode("unicode_escape").decode() for c in text)
     if len(plain) > 200:
         plain = f"{plain[:90]}..{plain[-90:]}"
-    return plain if re.fullmatch(r"[\w./+,:@%=~^-]+", plain) else f"'{plain}'"
+    if re.fullmatch(r"[\w./+,:@%=~^-]+", plain):
+        return plain
+    return f'"{plain}"' if "'" in plain else f"'{plain}'"
 
 
 def failed(name: str, what: str, error: OSError) -> Failed:
@@ -48,60 +51,86 @@ def hold_standard() -> None:
 
 
 def standard_of(name: str, descriptor: int) -> Optional[int]:
-    """The open descriptor that a name means, `-` being `descriptor`."""
-    match = STANDARD.fullmatch(name)
+    """The descriptor, open already, that a name means, `-` being `descriptor`."""
+    match = STANDARD.fullmatch(os.path.normpath(name)) if name else None
     if not match:
         return None
-    meant = int(match[2]) if match[2] else descriptor if name == "-" else ("in", "out", "err").index(match[1])
+    meant = int(match[2]) if match[2] else ("in", "out", "err").index(match[1]) if match[1] else descriptor
+    try:
+        os.fstat(meant)
+    except OSError as error:
+        raise failed(name, "cannot be opened", error)
     if meant in closed:
         raise Failed(f"{shown(name)} cannot be opened: it is closed")
     return meant
 
 
+def read_part(source: int, length: int) -> bytes:
+    """Some bytes, or none at the end; it waits where the other side of a pipe has asked not to."""
+    while True:
+        try:
+            return os.read(source, length)
+        except BlockingIOError:
+            select.select([source], [], [])
+
+
+def write_all(to: int, data: bytes) -> None:
+    at = 0
+    while at < len(data):
+        try:
+            at += os.write(to, data[at:])
+        except BlockingIOError:
+            select.select([], [to], [])
+
+
 def copied(source: int, name: str) -> int:
     """What a pipe or a device gives, kept in memory: no more than shows that it is too long."""
-    kept = os.memfd_create("zr")
-    size = 0
-    try:
-        while size <= LONGEST:
-            part = os.read(source, min(1 << 16, LONGEST + 1 - size))
-            if not part:
-                break
-            size += os.write(kept, part)
-    except OSError as error:
-        raise failed(name, "cannot be read", error)
+    kept, size = os.memfd_create("zr"), 0
+    while size <= LONGEST:
+        try:
+            part = read_part(source, min(1 << 16, LONGEST + 1 - size))
+        except OSError as error:
+            raise failed(name, "cannot be read", error)
+        if not part:
+            break
+        size += len(part)
+        try:
+            write_all(kept, part)
+        except OSError as error:
+            raise failed(name, "cannot be kept in memory", error)
     return kept
 
 
 class Input:
-    """A file that is read. Its size is None where it is longer than any buffer, which need not have an end."""
+    """A file that is read. What is no plain file, or is open already, is copied first."""
 
     def __init__(self, role: str, name: str) -> None:
         self.role, self.name = role, name
-        self.standard = standard_of(name, 0) == 0
+        self.source = standard_of(name, 0)
+        self.copied = False
         self.descriptor = -1
 
     def open(self) -> None:
         try:
-            self.descriptor = os.dup(0) if self.standard else os.open(self.name, os.O_RDONLY)
+            self.descriptor = os.open(self.name, os.O_RDONLY) if self.source is None else os.dup(self.source)
         except OSError as error:
             raise failed(self.name, "cannot be opened", error)
         kind = os.fstat(self.descriptor).st_mode
         if stat.S_ISDIR(kind):
             raise Failed(f"{shown(self.name)} cannot be read: it is a folder")
-        if self.standard or not stat.S_ISREG(kind):
-            source, self.descriptor = self.descriptor, copied(self.descriptor, self.name)
+        if self.source is not None or not stat.S_ISREG(kind):
+            source, self.descriptor, self.copied = self.descriptor, copied(self.descriptor, self.name), True
             os.close(source)
 
     @property
     def size(self) -> Optional[int]:
+        """None where a copy shows only that it is longer than any buffer."""
         size = os.fstat(self.descriptor).st_size
-        return size if size <= LONGEST else None
+        return None if self.copied and size > LONGEST else size
 
 
 class Output:
-    """A file that is written: beside its name first, and under it when it is whole. A stream (standard output, a pipe, a device) holds nothing that could
-    be lost, and is written at the end."""
+    """A file that is written: beside its name first, and under it when it is whole. A stream (standard output, a pipe, a device) is written at the end."""
 
     def __init__(self, role: str, name: str, force: bool) -> None:
         self.role, self.name, self.force = role, name, force
@@ -136,10 +165,12 @@ class Output:
             raise Failed(f"{shown(self.name)} cannot be opened for writing: it names no file")
         if self.old is None:
             return
+        if os.path.realpath(os.path.dirname(self.name) or ".") == "/dev":
+            raise Failed(f"{shown(self.name)} cannot be opened for writing: it is the system's own")
         if not (stat.S_ISREG(self.old.st_mode) or stat.S_ISLNK(self.old.st_mode)):
             raise Failed(f"{shown(self.name)} cannot be opened for writing: {'it is a folder' if stat.S_ISDIR(self.old.st_mode) else 'it is no file'}")
         if not self.force:
-            read = [i.role for i in inputs if not i.standard and one_file(i.name, self.name)]
+            read = [i.role for i in inputs if i.source is None and one_file(i.name, self.name)]
             raise Failed(f"{shown(self.name)} exists already{f', and is {read[0]}, which is read' if read else ''}; it is replaced where --force stands first: zr --force ..")
 
     def identity(self) -> Optional[Tuple[int, int]]:
@@ -162,11 +193,18 @@ class Output:
             return
         try:
             self.folder = os.open(os.path.dirname(self.name) or ".", os.O_PATH | os.O_DIRECTORY)
+            self.refuse_anothers()
             self.part = f".zr-{os.getpid()}-{secrets.token_hex(4)}"
             self.descriptor = os.open(self.part, os.O_RDWR | os.O_CREAT | os.O_EXCL, 0o600, dir_fd=self.folder)
         except OSError as error:
             self.part = ""
             raise failed(self.name, "cannot be opened for writing", error)
+
+    def refuse_anothers(self) -> None:
+        """In a folder that many share only its owner can replace a file. It is known before any name is given."""
+        folder = os.fstat(self.folder)
+        if self.old is not None and folder.st_mode & stat.S_ISVTX and os.geteuid() not in (0, folder.st_uid, self.old.st_uid):
+            raise PermissionError(errno.EPERM, "it is another's, in a folder where only its owner can replace it")
 
     def whole(self) -> None:
         """The bytes are on the disk, and the file is as open to others as the old one, or a new one, is."""
@@ -191,10 +229,8 @@ class Output:
     def pour(self) -> None:
         """Writes a stream."""
         try:
-            to = self.stream if self.stream is not None else os.open(self.name, os.O_WRONLY)
-            at, size = 0, os.fstat(self.descriptor).st_size
-            while at < size:
-                at += os.write(to, os.pread(self.descriptor, 1 << 16, at))
+            to = os.open(self.name, os.O_WRONLY) if self.stream is None else self.stream
+            write_all(to, os.pread(self.descriptor, os.fstat(self.descriptor).st_size, 0))
             if self.stream is None:
                 os.close(to)
         except OSError as error:
@@ -215,14 +251,29 @@ class Output:
             raise failed(self.name, "cannot be written", error)
 
     def keep_old(self) -> None:
-        kept, folder = f"{self.part}-old", os.fstat(self.folder)
-        if self.old is None or (folder.st_mode & stat.S_ISVTX and os.geteuid() not in (0, folder.st_uid, self.old.st_uid)):
-            return  # another's file in a shared folder: it cannot be replaced, and a second name of it could not be removed
+        kept = f"{self.part}-old"
         try:
             os.link(self.base, kept, src_dir_fd=self.folder, dst_dir_fd=self.folder, follow_symlinks=False)
             self.kept = kept
         except OSError:
-            pass  # there is none, or this disk has no second names: then it cannot be brought back
+            pass  # there is none, or it may have no second name: then it cannot be brought back
+
+    def stands(self) -> bool:
+        """Whether the name still leads to this file: a disk may take two names for one, as Out and out."""
+        now, own = os.stat(self.base, dir_fd=self.folder, follow_symlinks=False), os.fstat(self.descriptor)
+        return (now.st_dev, now.st_ino) == (own.st_dev, own.st_ino)
+
+    def sync_folder(self) -> None:
+        try:
+            folder = os.open(".", os.O_RDONLY | os.O_DIRECTORY, dir_fd=self.folder)
+        except OSError:
+            return  # a folder that may be written and not read
+        try:
+            os.fsync(folder)
+        except OSError as error:
+            raise failed(self.name, "is there, but perhaps not on the disk yet", error)
+        finally:
+            os.close(folder)
 
     def undo(self) -> bool:
         """Takes the name back, or brings back what stood there; whether that could be done."""
@@ -236,26 +287,21 @@ class Output:
                 os.unlink(self.base, dir_fd=self.folder)
             else:
                 return False
+        except FileNotFoundError:
+            pass  # it is gone with another name for it
         except OSError:
             return False
         self.placed = False
         return True
 
     def end(self) -> None:
-        """Leaves nothing but the output itself, and has the folder on the disk too."""
+        """Leaves nothing but the output itself."""
         for name in (self.part, self.kept):
             try:
                 if name:
                     os.unlink(name, dir_fd=self.folder)
             except OSError:
                 pass  # it is gone, or stays hidden; the answer is what counts
-        try:
-            if self.placed:
-                folder = os.open(".", os.O_RDONLY | os.O_DIRECTORY, dir_fd=self.folder)
-                os.fsync(folder)
-                os.close(folder)
-        except OSError:
-            pass  # a folder that may be written and not read
 
 
 def link_new(part: str, base: str, folder: int) -> None:
@@ -263,11 +309,11 @@ def link_new(part: str, base: str, folder: int) -> None:
     try:
         os.link(part, base, src_dir_fd=folder, dst_dir_fd=folder)
     except OSError as error:
-        if error.errno not in (errno.EPERM, errno.EOPNOTSUPP, errno.ENOSYS):
+        if error.errno not in (errno.EPERM, errno.EOPNOTSUPP, errno.ENOSYS, errno.EMLINK, errno.ENOSPC):
             raise
         if os.access(base, os.F_OK, dir_fd=folder, follow_symlinks=False):
             raise FileExistsError(errno.EEXIST, os.strerror(errno.EEXIST))
-        os.rename(part, base, src_dir_fd=folder, dst_dir_fd=folder)  # a disk without second names
+        os.rename(part, base, src_dir_fd=folder, dst_dir_fd=folder)  # a disk that gives no second name
 
 
 def one_file(a: str, b: str) -> bool:
@@ -281,13 +327,27 @@ def one_file(a: str, b: str) -> bool:
 
 
 def refuse_shared(inputs: Sequence[Input], outputs: Sequence[Output]) -> None:
-    standard = [i.role for i in inputs if i.standard]
-    if len(standard) > 1:
-        raise Failed(f"{standard[0]} and {standard[1]} cannot both be standard input")
+    for k, i in enumerate(inputs):
+        twice = [j.role for j in inputs[:k] if i.source is not None and j.source == i.source]
+        if twice:
+            raise Failed(f"{twice[0]} and {i.role} cannot both be {'standard input' if i.source == 0 else shown(i.name)}")
     for k, one in enumerate(outputs):
         for other in outputs[:k]:
             if one.is_one_with(other):
-                raise Failed(f"{other.role} and {one.role} are one file, {shown(one.name)}, and the second would replace the first")
+                raise one_for_two(other, one)
+
+
+def one_for_two(first: Output, second: Output) -> Failed:
+    return Failed(f"{first.role} and {second.role} are one file, {shown(second.name)}, and the second would replace the first")
+
+
+def begin(outputs: Sequence[Output]) -> None:
+    for k, one in enumerate(outputs):
+        one.begin()
+        for other in outputs[:k]:
+            # one folder may have two names, as where it is mounted twice
+            if not one.poured and not other.poured and one.base == other.base and os.path.sameopenfile(one.folder, other.folder):
+                raise one_for_two(other, one)
 
 
 def deliver(outputs: List[Output]) -> None:
@@ -302,8 +362,12 @@ def deliver(outputs: List[Output]) -> None:
         named = [output for output in outputs if not output.poured]
         for output in named:
             output.place(keep=output is not named[-1])
+        if not all(output.stands() for output in named):
+            raise one_for_two(named[0], named[-1])
     except Failed as error:
-        left = [shown(output.name) for output in outputs if not output.undo()]
+        left = [shown(output.name) for output in reversed(outputs) if not output.undo()]
         raise Failed(f"{error}; {left[0]} is new already, and the old one could not be put back") if left else error
     finally:
         signal.pthread_sigmask(signal.SIG_SETMASK, before)
+    for output in named:
+        output.sync_folder()

@@ -97,8 +97,14 @@ def prove() -> None:
     if status < 0:
         signal.signal(-status, signal.SIG_DFL)
         os.kill(os.getpid(), -status)
-    if status:
+    if status or not says_ok():
         raise Failed("zr is not proved, so it was not built; all that was said is in target/zr.log")
+
+
+def says_ok() -> bool:
+    """The verdict in rt's own words."""
+    with open(LOG, encoding="utf-8", errors="replace") as text:
+        return "\nrt: ok, " in text.read()
 
 
 def words() -> List[str]:

@@ -15,7 +15,7 @@ def at_terminal(words, key_after=None):
     """What the command writes to its terminal, and its exit status; Ctrl-C is typed once the text `key_after` was seen."""
     process, terminal = pty.fork()
     if process == 0:
-        os.execv(words[0], words)
+        os.execve(words[0], words, {**os.environ, "TERM": "xterm", "TMPDIR": os.path.abspath("temporary")})
     seen = b""
     while True:
         try:
@@ -38,14 +38,16 @@ def expect(fact, seen):
 
 
 def main(words):
+    os.mkdir("temporary")
     seen, status = at_terminal(words, b"proving: 0 of 2 crates")
     expect(os.WIFSIGNALED(status) and os.WTERMSIG(status) == signal.SIGINT, (seen, status))
     expect(re.search(r"stopped: [01] of 2 crates are proved, and the next start goes on from there", seen), seen)
     with open("target/proving.lock", "ab") as lock:  # every prover holds it
         fcntl.flock(lock, fcntl.LOCK_EX | fcntl.LOCK_NB)
+    expect(os.listdir("temporary") == [], os.listdir("temporary"))
     seen, status = at_terminal(words)
     expect(status == 0, (seen, status))
-    expect(re.search(r"\rproving: \d of 2 crates, \d+ s *\r", seen) and re.search(r"\rproved: 2 of 2 crates, \d+ s\r\n$", seen), seen)
+    expect(re.search(r"\rproving: \d of 2 crates, \d+ s\x1b\[K\r", seen) and re.search(r"\r\x1b\[Kproved: 2 of 2 crates, \d+ s\r\n$", seen), seen)
     expect(seen.count("\n") == 1, seen)
 
 

@@ -7,6 +7,7 @@ import errno
 import os
 import sys
 import tempfile
+import threading
 import unittest
 from unittest import mock
 
@@ -37,8 +38,8 @@ class Outputs(unittest.TestCase):
 
     def begun(self, force):
         outputs = [Output("FIRST", self.first, force), Output("SECOND", self.second, force)]
+        files.begin(outputs)
         for output in outputs:
-            output.begin()
             os.write(output.descriptor, b"new")
         return outputs
 
@@ -85,18 +86,29 @@ class Outputs(unittest.TestCase):
         self.holds({"first": b"new", "second": b"old"})
 
     def test_anothers_file_in_a_shared_folder(self):
-        """Only its owner can replace it, and nobody else could remove a second name of it."""
         self.old()
         os.chmod(self.room.name, 0o1777)
-
-        def replace(*_, **__):
-            raise OSError(errno.EPERM, os.strerror(errno.EPERM))
-
-        with mock.patch("os.geteuid", lambda: os.stat(self.first).st_uid + 1), mock.patch("os.replace", replace), mock.patch("os.link") as link:
-            with self.assertRaisesRegex(Failed, "first cannot be written: Operation not permitted$"):
-                self.deliver(self.begun(True))
-        link.assert_not_called()
+        with mock.patch("os.geteuid", lambda: os.stat(self.first).st_uid + 1):
+            with self.assertRaisesRegex(Failed, "first cannot be opened for writing: it is another's, in a folder where only its owner can replace it"):
+                self.begun(True)
         self.holds({"first": b"old", "second": b"old"})
+
+    def test_a_disk_that_takes_two_names_for_one(self):
+        def one_name(function):
+            return lambda *words, **more: function(*(w.lower() if isinstance(w, str) else w for w in words), **more)
+
+        self.second = self.first.replace("first", "FIRST")
+        with open(self.first, "wb") as file:
+            file.write(b"old")
+        with mock.patch("os.replace", one_name(os.replace)), mock.patch("os.link", one_name(os.link)), mock.patch("os.stat", one_name(os.stat)):
+            with self.assertRaisesRegex(Failed, "FIRST and SECOND are one file"):
+                self.deliver(self.begun(True))
+        self.holds({"first": b"old"})
+
+    def test_the_folder_is_not_on_the_disk(self):
+        with mock.patch("os.fsync", refusing(os.fsync, 3)), self.assertRaisesRegex(Failed, "first is there, but perhaps not on the disk yet"):
+            self.deliver(self.begun(False))
+        self.holds({"first": b"new", "second": b"new"})
 
     def test_not_on_the_disk(self):
         with mock.patch("os.fsync", refusing(os.fsync, 2)), self.assertRaisesRegex(Failed, "second cannot be written"):
@@ -119,6 +131,24 @@ class Outputs(unittest.TestCase):
         with mock.patch("os.link", link):
             self.deliver(outputs)
         self.holds({"first": b"new", "second": b"new"})
+
+
+class Streams(unittest.TestCase):
+    def test_a_pipe_that_does_not_wait(self):
+        data, taken = bytes(range(256)) * 2000, []
+        source, to = os.pipe()
+        os.set_blocking(to, False)
+        os.set_blocking(source, False)
+
+        def take():
+            while sum(map(len, taken)) < len(data):
+                taken.append(files.read_part(source, 1000))
+
+        thread = threading.Thread(target=take)
+        thread.start()
+        files.write_all(to, data)
+        thread.join()
+        self.assertEqual(b"".join(taken), data)
 
 
 if __name__ == "__main__":

@@ -1,0 +1,56 @@
+"""Sends signals to zr while it starts, while it reads and while it writes, and looks at how it ends:
+
+    interrupt.py ZR     in a folder with info, parity, capture and a pipe of that name
+
+It must end by the signal, as a command does, or be done; say nothing of Python's; and leave no file but a whole one.
+"""
+
+import os
+import signal
+import subprocess
+import sys
+import time
+
+WHOLE = 183296
+
+
+def started(zr, *words):
+    """A program that was started by a script's `&` would ignore Ctrl-C."""
+    return subprocess.Popen([zr, *words], stderr=subprocess.PIPE, preexec_fn=lambda: signal.signal(signal.SIGINT, signal.default_int_handler))
+
+
+def expect(fact, told):
+    if not fact:
+        sys.exit(f"what was seen: {told}")
+
+
+def ended(process, *numbers):
+    """It ended by one of the signals, with nothing to say; or was done."""
+    said = process.communicate(timeout=60)[1]
+    expect(process.returncode in [-number for number in numbers] and not said or process.returncode == 0 and said.startswith(b"done"), (numbers, process.returncode, said))
+    expect([name for name in os.listdir() if name.startswith(".zr-")] == [], os.listdir())
+    if os.path.exists("new"):
+        expect(process.returncode == 0 and os.path.getsize("new") == WHOLE, (process.returncode, os.path.getsize("new")))
+        os.remove("new")
+
+
+def main(zr):
+    for number in (signal.SIGINT, signal.SIGTERM, signal.SIGHUP, signal.SIGQUIT):
+        process = started(zr, "code", "1", "0", "pipe", "parity", "new")
+        with open("pipe", "wb"):  # it has begun to read
+            process.send_signal(number)
+            ended(process, number)
+    for delay in range(0, 120, 4):
+        process = started(zr, "code", "1", "0", "info", "parity", "new")
+        time.sleep(delay / 1000)
+        process.send_signal(signal.SIGINT)
+        ended(process, signal.SIGINT)
+    process = started(zr, "read", "1", "63", "capture", "pipe", "new")
+    with open("pipe", "rb"):  # it has begun to write
+        for number in (signal.SIGHUP, signal.SIGTERM, signal.SIGINT):
+            process.send_signal(number)
+        ended(process, signal.SIGHUP, signal.SIGTERM, signal.SIGINT)
+
+
+if __name__ == "__main__":
+    main(sys.argv[1])
