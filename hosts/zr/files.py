@@ -351,23 +351,22 @@ def begin(outputs: Sequence[Output]) -> None:
 
 
 def deliver(outputs: List[Output]) -> None:
-    """Both or neither: streams first, since they fail more easily; then the names, which are taken back where one cannot be had."""
+    """Both or neither: streams first, since they fail more easily; then the names, which are taken back where one cannot be had. From the first name on no
+    signal ends the command, so that one that has written its outputs is done."""
     for output in outputs:
         output.whole()
     for output in outputs:
         if output.poured:
             output.pour()
-    before = signal.pthread_sigmask(signal.SIG_BLOCK, ENDINGS)
+    signal.pthread_sigmask(signal.SIG_BLOCK, ENDINGS)
+    named = [output for output in outputs if not output.poured]
     try:
-        named = [output for output in outputs if not output.poured]
         for output in named:
             output.place(keep=output is not named[-1])
         if not all(output.stands() for output in named):
             raise one_for_two(named[0], named[-1])
     except Failed as error:
-        left = [shown(output.name) for output in reversed(outputs) if not output.undo()]
+        left = [shown(output.name) for output in reversed(named) if not output.undo()]
         raise Failed(f"{error}; {left[0]} is new already, and the old one could not be put back") if left else error
-    finally:
-        signal.pthread_sigmask(signal.SIG_SETMASK, before)
     for output in named:
         output.sync_folder()

@@ -15,6 +15,7 @@ def at_terminal(words, key_after=None):
     """What the command writes to its terminal, and its exit status; Ctrl-C is typed once the text `key_after` was seen."""
     process, terminal = pty.fork()
     if process == 0:
+        signal.signal(signal.SIGINT, signal.SIG_DFL)  # where it is ignored, as by what a script starts with &, nothing can be stopped by it
         os.execve(words[0], words, {**os.environ, "TERM": "xterm", "TMPDIR": os.path.abspath("temporary")})
     seen = b""
     while True:

@@ -14,9 +14,17 @@ import time
 WHOLE = 183296
 
 
+SIGNALS = (signal.SIGINT, signal.SIGTERM, signal.SIGHUP, signal.SIGQUIT)
+
+
+def heard():
+    """What was started by a script's `&` ignores Ctrl-C otherwise, and by nohup that the terminal was closed."""
+    for number in SIGNALS:
+        signal.signal(number, signal.SIG_DFL)
+
+
 def started(zr, *words):
-    """A program that was started by a script's `&` would ignore Ctrl-C."""
-    return subprocess.Popen([zr, *words], stderr=subprocess.PIPE, preexec_fn=lambda: signal.signal(signal.SIGINT, signal.default_int_handler))
+    return subprocess.Popen([zr, *words], stderr=subprocess.PIPE, preexec_fn=heard)
 
 
 def expect(fact, told):
@@ -35,7 +43,7 @@ def ended(process, *numbers):
 
 
 def main(zr):
-    for number in (signal.SIGINT, signal.SIGTERM, signal.SIGHUP, signal.SIGQUIT):
+    for number in SIGNALS:
         process = started(zr, "code", "1", "0", "pipe", "parity", "new")
         with open("pipe", "wb"):  # it has begun to read
             process.send_signal(number)

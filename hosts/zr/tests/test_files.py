@@ -5,6 +5,7 @@
 
 import errno
 import os
+import signal
 import sys
 import tempfile
 import threading
@@ -32,6 +33,8 @@ def refusing(function, call):
 
 class Outputs(unittest.TestCase):
     def setUp(self):
+        before = signal.pthread_sigmask(signal.SIG_BLOCK, [])
+        self.addCleanup(signal.pthread_sigmask, signal.SIG_SETMASK, before)  # what delivers outputs is soon at its end, and holds signals back
         self.room = tempfile.TemporaryDirectory()
         self.addCleanup(self.room.cleanup)
         self.first, self.second = (os.path.join(self.room.name, name) for name in ("first", "second"))
