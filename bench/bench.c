@@ -110,7 +110,7 @@ static double edit(const struct coder *c, int which)
 static void compare(void)
 {
     if (memcmp(out_capture[0], out_capture[1], sizeof capture) != 0 || memcmp(out_info[0], out_info[1], sizeof info) != 0 ||
-        memcmp(out_parity[0], out_parity[1], sizeof parity) != 0)
+        memcmp(out_parity[0], out_parity[1], sizeof parity) != 0 || memcmp(out_list[0], out_list[1], sizeof out_list[0]) != 0)
         stop("the two coders wrote different bytes");
 }
 

@@ -39,15 +39,16 @@ extern "C" {
 #define ZR400_BLOCK_PARITY_BYTES 2048u                                /* of one FEC block */
 #define ZR400_CLIENT_BYTES 33u                                        /* a client block: 257 bits, then seven zero bits */
 #define ZR400_LIST_LENGTH 145u                                        /* numbers in the list of an edit */
-#define ZR400_INFORMATION_BYTES(N) ((size_t)152915 * (N))
-#define ZR400_PARITY_BYTES(N) ((size_t)10240 * (N))
-#define ZR400_CAPTURE_BYTES(N) ((size_t)175616 * (N) + 7680)
-#define ZR400_WORDS(N) ((size_t)10976 * (N) + 480)
-#define ZR400_WINDOW_BYTES(n) ((size_t)257 * (n) / 2)                 /* n places, n even */
-#define ZR400_GROUPS_BYTES(d) (((size_t)257 * (d) + 1) / 2)           /* d data places */
+#define ZR400_INFORMATION_BYTES(N) ((size_t)152915 * (size_t)(N))
+#define ZR400_PARITY_BYTES(N) ((size_t)10240 * (size_t)(N))
+#define ZR400_CAPTURE_BYTES(N) ((size_t)175616 * (size_t)(N) + 7680)
+#define ZR400_WORDS(N) ((size_t)10976 * (size_t)(N) + 480)
+#define ZR400_WINDOW_BYTES(n) ((size_t)257 * (size_t)(n) / 2)                 /* n places, n even */
+#define ZR400_GROUPS_BYTES(d) (((size_t)257 * (size_t)(d) + 1) / 2)           /* d data places */
 
-/* The stack of a thread that makes any of the calls, 384 KiB: hosts/check measures them all, in a thread. */
-#define ZR400_STACK_BYTES 393216u
+/* The stack of a thread that makes any of the calls: 512 KiB. A call takes at most three quarters of it, as hosts/check
+ * measures; the rest is for the thread's own frames and data. A thread that has much of these needs so much more. */
+#define ZR400_STACK_BYTES 524288u
 
 typedef struct { uint64_t number, place, count; } zr_answer;
 typedef struct { uint64_t number, kind, last; } zr_run;               /* kind 0 stuff, 1 data */

@@ -1,7 +1,10 @@
 """Makes the wheel of the package zr400 from the files in hosts/out, which hosts/build has made before.
 
-    python3 hosts/python/make_wheel.py FOLDER     writes the wheel into FOLDER, removes those of other versions there, prints its path
-    pip install hosts/python                 calls build_wheel (pyproject.toml)
+    python3 hosts/python/make_wheel.py FOLDER [OUT]   writes the wheel into FOLDER, removes those of other versions there, prints its path;
+                                                      OUT is the folder with the library's files, hosts/out where none is named
+    pip install hosts/python                          calls build_wheel (pyproject.toml)
+
+A library that was made without proofs has the version VERSION+plain, so that none is taken for the other.
 
 The same files give the same bytes: the zip has fixed times and modes, and its members are not compressed.
 """
@@ -66,10 +69,15 @@ def build_wheel(
     wheel_directory: str, config_settings: Optional[Dict[str, Any]] = None, metadata_directory: Optional[str] = None
 ) -> str:
     """The hook of PEP 517: writes the wheel into the folder and returns its name."""
-    version = _read(_VERSION, "it is at the top of the repository").decode("ascii").strip()
+    return _write_wheel(wheel_directory, _OUT)
+
+
+def _write_wheel(folder: str, out: str) -> str:
+    origin = _read(os.path.join(out, "made-from.txt")).decode("ascii").strip()
+    version = _read(_VERSION, "it is at the top of the repository").decode("ascii").strip() + ("+plain" if "no proof" in origin else "")
     name = f"zr400-{version}-py3-none-{'.'.join(_PLATFORMS)}.whl"
-    path = os.path.join(wheel_directory, name)
-    members = _members(version)
+    path = os.path.join(folder, name)
+    members = _members(version, origin, out)
     members.append(_record(members, f"zr400-{version}.dist-info/RECORD"))
     # Written whole before it has its name, so that no half of a wheel is ever found.
     with zipfile.ZipFile(path + ".part", "w", zipfile.ZIP_STORED) as archive:
@@ -87,13 +95,12 @@ def build_sdist(sdist_directory: str, config_settings: Optional[Dict[str, Any]] 
     raise UnsupportedOperation("there is no source distribution: the library is proved and built in the repository")
 
 
-def _members(version: str) -> List[Member]:
+def _members(version: str, origin: str, out: str) -> List[Member]:
     package = os.path.join(_HERE, "zr400")
     files = [Member(f"zr400/{file}", _read(os.path.join(package, file))) for file in ("__init__.py", "_library.py", "py.typed")]
     files.append(Member("zr400/VERSION", f"{version}\n".encode("ascii")))
     for file in ("libzr400.so", "zr400-worker"):
-        files.append(Member(f"zr400/{file}", _read(os.path.join(_OUT, file)), 0o755))
-    origin = _read(os.path.join(_OUT, "made-from.txt")).decode("ascii").strip()
+        files.append(Member(f"zr400/{file}", _read(os.path.join(out, file)), 0o755))
     tags = "\n".join(f"Tag: py3-none-{platform}" for platform in _PLATFORMS)
     told = f"zr400-{version}.dist-info"
     files.append(Member(f"{told}/METADATA", _METADATA.format(version=version, origin=origin).encode("ascii")))
@@ -118,11 +125,11 @@ def _record(members: List[Member], name: str) -> Member:
 
 
 def main(words: List[str]) -> None:
-    if len(words) != 1 or words[0].startswith("-"):
-        raise SystemExit("usage: python3 hosts/python/make_wheel.py FOLDER")
+    if len(words) not in (1, 2) or words[0].startswith("-"):
+        raise SystemExit("usage: python3 hosts/python/make_wheel.py FOLDER [OUT]")
     folder = words[0]
     os.makedirs(folder, exist_ok=True)
-    path = os.path.join(folder, build_wheel(folder))
+    path = os.path.join(folder, _write_wheel(folder, words[-1] if len(words) == 2 else _OUT))
     for old in glob.glob(os.path.join(glob.escape(folder), "zr400-*.whl")):
         if os.path.basename(old) != os.path.basename(path):
             os.remove(old)

@@ -37,17 +37,29 @@ class Kinds(unittest.TestCase):
         self.assertEqual(out.tobytes(), capture)
         zr400.edit(1, 6, bytes(33), bytes(2048), out)
         self.assertNotEqual(out.tobytes(), capture)
-        with self.assertRaises((BufferError, ValueError)):
+        with self.assertRaisesRegex(TypeError, "^information cannot be lent: "):
             zr400.code(1, 7, numpy.zeros(2 * len(information), dtype=numpy.uint8)[::2], parity)
 
     def test_what_cannot_be_lent(self):
         information, parity, capture = coded(1)
         with self.assertRaisesRegex(TypeError, "^information cannot be lent: "):
             zr400.code(1, 7, "text", parity)
-        with self.assertRaisesRegex(BufferError, "^capture cannot be lent: "):
+        with self.assertRaisesRegex(TypeError, "^capture cannot be lent: it is an output, and cannot be written"):
             zr400.code(1, 7, information, parity, bytes(len(capture)))
-        with self.assertRaisesRegex((BufferError, ValueError), "^information cannot be lent: "):
+        with self.assertRaisesRegex(TypeError, "^information cannot be lent: its bytes do not stand one after the other"):
             zr400.code(1, 7, memoryview(information + information)[::2], parity)
+
+    def test_beside_another_user_of_the_c_api(self):
+        """A program may have told ctypes.pythonapi of types of its own."""
+        functions = ctypes.pythonapi.PyObject_GetBuffer, ctypes.pythonapi.PyBuffer_Release
+        before = [function.argtypes for function in functions]
+        try:
+            for function in functions:
+                function.argtypes = [ctypes.c_char_p]
+            self.assertEqual(zr400.unmap_window(0, 1, 2, bytes(257)), b"")
+        finally:
+            for function, types in zip(functions, before):
+                function.argtypes = types
 
     def test_a_part_is_the_buffer_itself(self):
         info = bytearray(coded(1)[0])

@@ -10,6 +10,14 @@ from common import REPOSITORY, coded, flip, refusal, zr400
 SENTENCE = "a buffer's length is not the stated one"
 
 
+class Told(zr400.Refused):
+    """A kind of a user's own, which begins in another way."""
+
+    def __init__(self, story):
+        super().__init__(4, 7)
+        self.story = story
+
+
 class Refusals(unittest.TestCase):
     def test_sentence_and_place(self):
         capture = bytearray(coded(1)[2])
@@ -73,6 +81,10 @@ class Refusals(unittest.TestCase):
         refused = caught.exception
         self.assertEqual((refused.number, refused.buffer, refused.length, refused.wanted), (1, None, None, None))
         self.assertEqual(str(refused), "refused 1: a number is outside its stated set")
+
+    def test_a_copy_of_a_kind_of_ones_own(self):
+        kept = pickle.loads(pickle.dumps(Told("a story")))
+        self.assertEqual((kept.number, kept.story, str(kept)), (4, "a story", str(zr400.Refused(4, 7))))
 
     def test_a_copy_is_the_same(self):
         with self.assertRaises(zr400.Refused) as caught:

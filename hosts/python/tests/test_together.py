@@ -1,10 +1,11 @@
 """Threads and forks."""
 
+import os
 import threading
 import unittest
 from unittest import mock
 
-from common import MINUTE, StandIn, _library, coded, forked, is_worker, use, zr400
+from common import MINUTE, StandIn, _library, coded, forked, is_worker, text_of, use, zr400
 
 
 class Together(unittest.TestCase):
@@ -23,6 +24,30 @@ class Together(unittest.TestCase):
         for thread in threads:
             thread.join()
         self.assertEqual(wrong, [])
+
+    @unittest.skipIf("ZR400_WORKER" in os.environ or not _library.is_native(), "only a call in this process needs its thread's stack")
+    def test_a_thread_with_a_small_stack(self):
+        information, parity, capture = coded(1)
+        outcomes = []
+
+        def work():
+            try:
+                outcomes.append(zr400.code(1, 7, information, parity) == capture)
+            except RuntimeError as error:
+                outcomes.append(str(error))
+
+        for size in (1 << 18, _library.STACK_BYTES):
+            before = threading.stack_size(size)
+            try:
+                thread = threading.Thread(target=work)
+                thread.start()
+                thread.join()
+            finally:
+                threading.stack_size(before)
+        self.assertEqual(outcomes, [f"a call needs a stack of {_library.STACK_BYTES} bytes, and this thread's has {1 << 18}", True])
+
+    def test_the_stack_is_that_of_the_header(self):
+        self.assertIn(f"#define ZR400_STACK_BYTES {_library.STACK_BYTES}u", text_of("hosts", "c", "zr400.h"))
 
     def test_fork(self):
         self.assertEqual(zr400.runs(10216, 1), 8)

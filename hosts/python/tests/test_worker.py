@@ -7,9 +7,69 @@ import struct
 import sys
 import unittest
 
-from common import PYTHON, WORKER, StandIn, _library, coded, folder_for, python, use, use_worker, zr400
+from common import MINUTE, PYTHON, WORKER, StandIn, _library, coded, folder_for, python, use, use_worker, zr400
 
 BEFORE = b"\xa5" * 40
+
+CLOSED = """
+import os, sys
+sys.path.insert(0, sys.argv[1])
+for descriptor in range(3):
+    os.close(descriptor)
+import zr400
+answers = [zr400.runs(10216, 1), zr400.runs(10216, 2)]
+with_none = []
+for descriptor in range(3):
+    try:
+        os.fstat(descriptor)
+    except OSError:
+        with_none.append(descriptor)
+    os.open(os.devnull, os.O_RDONLY)
+with open(sys.argv[2], "w") as told:
+    told.write(f"{answers} {with_none}")
+"""
+
+ELSEWHERE = """
+import os, signal, sys
+sys.path.insert(0, sys.argv[1])
+import zr400
+from zr400 import _library
+zr400.runs(10216, 1)
+os.chdir("/")
+_library.library()._running.process.kill()
+print(zr400.runs(10216, 2))
+"""
+
+STORM = """
+import signal, sys
+sys.path.insert(0, sys.argv[1])
+import zr400
+raised = caught = 0
+inside = False
+
+def interrupt(*_):
+    global raised, inside
+    if inside:
+        inside, raised = False, raised + 1
+        raise KeyboardInterrupt
+
+full = b"Z" * 257
+signal.signal(signal.SIGALRM, interrupt)
+signal.setitimer(signal.ITIMER_REAL, 0.001, 0.0037)
+while raised < 300:
+    groups = bytearray(257)
+    try:
+        inside = True
+        zr400.unmap_window(10220, 1, 2, full, groups)
+        inside = False
+        assert groups == full
+    except KeyboardInterrupt:
+        caught += 1
+    assert groups in (bytes(257), full)
+    groups.append(0)  # no loan is left
+signal.setitimer(signal.ITIMER_REAL, 0)
+print(raised - caught, zr400.runs(10216, 1))
+"""
 
 CTRL_C = """
 import os, signal, sys, time
@@ -18,14 +78,14 @@ import zr400
 from zr400 import _library
 signal.signal(signal.SIGINT, signal.default_int_handler)
 assert zr400.runs(10216, 1) == 8
-first = _library.library()._process.pid
+first = _library.library()._running.process.pid
 try:
     os.killpg(os.getpgrp(), signal.SIGINT)  # what a terminal does
     time.sleep(30)
 except KeyboardInterrupt:
     pass
 assert zr400.runs(10216, 2) == 7
-print("the same worker" if _library.library()._process.pid == first else "another worker")
+print("the same worker" if _library.library()._running.process.pid == first else "another worker")
 """
 
 TO_THE_END = """
@@ -34,7 +94,7 @@ sys.path.insert(0, sys.argv[1])
 import zr400
 from zr400 import _library
 zr400.runs(10216, 1)
-print(_library.library()._process.pid)
+print(_library.library()._running.process.pid)
 """
 
 
@@ -46,12 +106,12 @@ class Lives(unittest.TestCase):
     def test_a_dead_worker_is_replaced(self):
         worker = use_worker(self)
         self.assertEqual(zr400.runs(10216, 1), 8)
-        first = worker._process
+        first = worker._running.process
         first.kill()
         first.wait()
         self.assertEqual(zr400.runs(10216, 2), 7)
-        self.assertNotEqual(worker._process.pid, first.pid)
-        os.kill(worker._process.pid, signal.SIGKILL)  # and one that nobody has waited for
+        self.assertNotEqual(worker._running.process.pid, first.pid)
+        os.kill(worker._running.process.pid, signal.SIGKILL)  # and one that nobody has waited for
         self.assertEqual(zr400.runs(10216, 1), 8)
 
     def test_a_call_is_made_again_when_an_old_worker_dies(self):
@@ -81,6 +141,19 @@ class Lives(unittest.TestCase):
         with self.assertRaises(ProcessLookupError):
             os.kill(int(ended.stdout), 0)
 
+    def test_a_program_without_standard_input_and_output(self):
+        told = os.path.join(folder_for(self), "told")
+        for variables in ({}, {"ZR400_WORKER": WORKER}):
+            python("-c", CLOSED, PYTHON, told, environment={**os.environ, **variables})
+            with open(told, encoding="ascii") as text:
+                self.assertEqual(text.read(), "[8, 7] [0, 1, 2]", variables)
+            os.remove(told)
+
+    def test_a_program_that_goes_to_another_folder(self):
+        relative = {**os.environ, "ZR400_WORKER": os.path.basename(WORKER)}
+        ended = python("-c", ELSEWHERE, PYTHON, environment=relative, cwd=os.path.dirname(WORKER))
+        self.assertEqual(ended.stdout, "7\n")
+
     def test_a_buffer_longer_than_every_stated_length(self):
         use_worker(self)
         with mmap.mmap(-1, (1 << 30) + 1) as long:
@@ -103,15 +176,20 @@ class Interrupts(unittest.TestCase):
         ended = python("-c", CTRL_C, PYTHON, environment=environment(), start_new_session=True)
         self.assertEqual((ended.returncode, ended.stdout), (0, "the same worker\n"))
 
+    def test_a_storm_of_interrupts(self):
+        """None is lost and none hangs, wherever it comes."""
+        ended = python("-c", STORM, PYTHON)
+        self.assertEqual((ended.returncode, ended.stdout), (0, "0 8\n"))
+
     def test_an_interrupted_call_changes_no_output(self):
         worker = StandIn(self, "answer,interrupt", "answer")
         self.assertEqual(zr400.runs(0, 1), 5)
-        first = worker._process
+        first = worker._running.process
         information, parity = bytearray(BEFORE), bytearray(BEFORE)
         with self.assertRaises(KeyboardInterrupt):
             zr400.read(1, 7, b"", information, parity)
         self.assertEqual((information, parity), (BEFORE, BEFORE))
-        self.assertIsNotNone(first.returncode)
+        self.assertEqual(first.wait(MINUTE), -signal.SIGKILL)
         self.assertEqual(zr400.read(1, 7, b"", information, parity).repaired, 5)
         self.assertEqual((information, parity, worker.starts()), (b"\x5a" * 40, b"\x5a" * 40, 2))
         information.append(0)  # no loan is left
@@ -136,8 +214,8 @@ class Prepared(_library.Worker):
         super().__init__([])
         self._prepared = answer
 
-    def _ask(self, request, received):
-        received[:] = self._prepared
+    def _ask(self, request, length):
+        return bytearray(self._prepared)
 
 
 def interrupted_at(step, call):
@@ -146,7 +224,7 @@ def interrupted_at(step, call):
 
     def enter(frame, event, _):
         # Not in the frames that take a lock: there a trace may raise where the interpreter itself never would.
-        if frame.f_code.co_filename != _library.__file__ or frame.f_code.co_name not in ("_hand_over", "<listcomp>"):
+        if frame.f_code.co_filename != _library.__file__ or frame.f_code.co_name not in ("_hand_over", "_in_one_step", "<listcomp>"):
             return None
         frame.f_trace, frame.f_trace_opcodes = take, True
         sys.settrace(enter)  # Python 3.12 sees the wish for single steps only here

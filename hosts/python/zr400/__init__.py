@@ -8,8 +8,8 @@
 
 Numbers and buffers are those of document 01 (the scope). A buffer is any object with contiguous bytes: bytes, bytearray,
 memoryview, array, mmap or a numpy array. It is lent as it stands and never copied into the library. An output buffer may be lent too;
-where none is, a bytearray of the right length is made and returned. It must hold plain bytes (TypeError) and share no memory with
-another buffer of the call (ValueError). Bits are packed first bit in the top bit of the first byte.
+where none is, a bytearray of the right length is made and returned. It must hold plain bytes (TypeError, as for what cannot be lent)
+and share no memory with another buffer of the call (ValueError). Bits are packed first bit in the top bit of the first byte.
 
 A call that the coder refuses raises `Refused`, and then no byte of any buffer has changed.
 
@@ -20,13 +20,14 @@ the same answers; there the bytes go through a pipe. ZR400_LIBRARY may name a li
 program to be used in any case.
 
 An interrupted call (Ctrl-C) has changed either no byte of its outputs or all that it would have changed. A forked child may call,
-whatever the threads of its parent were at.
+whatever the threads of its parent were at. A thread that calls needs a stack of 512 KiB; one that was made with less gets a RuntimeError.
+With a worker, a signal handler must not call while a call is made.
 """
 
 import array
 import operator
 import reprlib
-from typing import Any, List, NamedTuple, Optional, Sequence, Sized, SupportsIndex, Tuple, TypeVar, overload
+from typing import Any, Dict, List, NamedTuple, Optional, Sequence, Sized, SupportsIndex, Tuple, Type, TypeVar, overload
 
 from . import _library
 from ._library import Lent as _Lent
@@ -85,10 +86,17 @@ class Refused(ValueError):
         self.wanted: Optional[int] = None
         if wrong:
             self.buffer, self.length, self.wanted = wrong[0]
-        self._wrong = tuple(wrong)
 
     def __reduce__(self) -> Tuple[Any, ...]:
-        return type(self), (self.number, self.place, self._wrong), self.__dict__
+        return _refused_again, (type(self), self.args, self.__dict__)
+
+
+def _refused_again(kind: Type["Refused"], args: Tuple[Any, ...], known: Dict[str, Any]) -> "Refused":
+    """A refusal as it was, of a kind whose own beginning may ask for something else."""
+    refused = kind.__new__(kind, *args)
+    refused.args = args
+    refused.__dict__.update(known)
+    return refused
 
 
 class Run(NamedTuple):

@@ -1,16 +1,22 @@
 """The way to the library: where it is, how buffers are lent to it, and the process that runs it where it cannot be loaded."""
 
+import _thread
 import atexit
 import collections
 import ctypes
+import fcntl
+import functools
+import operator
 import os
 import platform
 import re
+import resource
 import shutil
+import signal
 import struct
 import subprocess
 import threading
-from typing import IO, Any, List, NamedTuple, Optional, Sequence, Tuple, Union
+from typing import Any, Callable, List, NamedTuple, Optional, Sequence, Tuple, Union
 
 Answer = Tuple[int, int, int]
 
@@ -64,56 +70,70 @@ class _PyBuffer(ctypes.Structure):
     ]
 
 
-# PyBUF_.. of the C API.
-_WRITABLE, _FORMAT, _C_CONTIGUOUS = 0x01, 0x04, 0x38
+# Handles of our own: those of ctypes.pythonapi belong to the whole program, which may have told them of other types.
+_api = ctypes.PyDLL(None)
+_api.PyObject_GetBuffer.argtypes = [ctypes.py_object, ctypes.POINTER(_PyBuffer), ctypes.c_int]
+_api.PyObject_GetBuffer.restype = ctypes.c_int
+_api.PyBuffer_Release.argtypes = [ctypes.POINTER(_PyBuffer)]
+_api.PyBuffer_Release.restype = None
+_FULL_READ_ONLY = 0x011C  # PyBUF_FULL_RO
 
 # A field's name in a format may be any text, and says nothing of what its bytes are.
 _FIELD_NAME = re.compile(r":[^:]*:")
 # Numbers, characters and raw bytes, alone or in structures and arrays; no object and no pointer, whose bytes are an address.
-_PLAIN = re.compile(r"(?:[@=<>!^\s]|\(\d+(?:,\d+)*\)|\d|T\{|\}|Z[fdg]|[?bBcsxphHiIlLqQnNefdgFDuw])*")
+_PLAIN = re.compile(r"(?:[@=<>!^\s]|\(\d+(?:,\d+)*\)|\d+|T\{|\}|Z[fdg]|[?bBcsxphHiIlLqQnNefdgFDuw])*")
 _BYTES = re.compile(r"[@=<>!]?[Bbc]")
 
 
 class Loan:
-    """The bytes of an object, where they stand. Until the loan ends the object can be neither resized nor freed."""
+    """The bytes of an object, where they stand. Until the loan ends the object can be neither resized nor freed. It is held by a
+    memoryview, which gives it back by itself where an interrupt left nobody to do so."""
 
-    def __init__(self, name: str, buffer: object, written: bool) -> None:
+    def __init__(self, name: str, buffer: Any, written: bool) -> None:
         self.name = name
         self.written = written
-        self._view = _PyBuffer()
-        flags = _C_CONTIGUOUS | _FORMAT | (_WRITABLE if written else 0)
         try:
-            ctypes.pythonapi.PyObject_GetBuffer(ctypes.py_object(buffer), ctypes.byref(self._view), flags)
+            self._view = memoryview(buffer)
         except (BufferError, TypeError, ValueError) as error:
-            kind = next(k for k in (BufferError, TypeError, ValueError) if isinstance(error, k))
-            raise kind(f"{name} cannot be lent: {error}") from None
-        self.length: int = self._view.len
-        self.address: int = (self._view.buf or 0) if self.length else 0
+            raise TypeError(f"{name} cannot be lent: {error}") from None
         try:
-            self._refuse_format()
-        except TypeError:
+            self._refuse_form()
+            self.length: int = self._view.nbytes
+            self.address: int = _address(self._view) if self.length else 0
+        except BaseException:
             self.end()
             raise
 
-    def _refuse_format(self) -> None:
-        form = (self._view.format or b"B").decode("utf-8", "replace")
-        if self.written and not (self._view.itemsize == 1 and _BYTES.fullmatch(form)):
-            raise TypeError(
-                f"{self.name} has items of format {form!r} and {self._view.itemsize} bytes: an output must be plain bytes"
-            )
+    def _refuse_form(self) -> None:
+        form, size = self._view.format, self._view.itemsize
+        if not self._view.c_contiguous:
+            raise TypeError(f"{self.name} cannot be lent: its bytes do not stand one after the other")
+        if self.written and not (size == 1 and _BYTES.fullmatch(form)):
+            raise TypeError(f"{self.name} has items of format {form!r} and {size} bytes: an output must be plain bytes")
         if not _PLAIN.fullmatch(_FIELD_NAME.sub(" ", form)):
             raise TypeError(f"{self.name} has items of format {form!r}: objects and pointers cannot be lent as bytes")
+        if self.written and self._view.readonly:
+            raise TypeError(f"{self.name} cannot be lent: it is an output, and cannot be written")
 
-    def bytes(self) -> memoryview:
-        if not self.length:
-            return memoryview(b"")
-        return memoryview((ctypes.c_ubyte * self.length).from_address(self.address)).cast("B")
+    def taken(self, most: int) -> bytes:
+        """A copy of its bytes, of no more than so many."""
+        return ctypes.string_at(self.address, min(self.length, most)) if self.length else b""
 
     def end(self) -> None:
-        ctypes.pythonapi.PyBuffer_Release(ctypes.byref(self._view))
+        self._view.release()
 
-    def __del__(self) -> None:
-        self.end()  # a second end does nothing; this one is for a loan that an interrupt left outside every list
+
+def _in_one_step(*calls: Callable[[], object]) -> None:
+    """Python raises an interrupt between two of its own steps only. Here it has none: the calls and what makes them are C, so that an
+    interrupt comes before the first or after the last."""
+    collections.deque(map(operator.methodcaller("__call__"), calls), maxlen=0)
+
+
+def _address(view: memoryview) -> int:
+    asked = _PyBuffer()
+    at = ctypes.byref(asked)
+    _in_one_step(functools.partial(_api.PyObject_GetBuffer, view, at, _FULL_READ_ONLY), functools.partial(_api.PyBuffer_Release, at))
+    return asked.buf or 0
 
 
 def _refuse_overlap(loans: Sequence[Loan]) -> None:
@@ -148,8 +168,23 @@ class InProcess:
         words: List[Optional[int]] = list(numbers)
         for k, loan in enumerate(loans):
             words += [loan.address or None, loan.length // 8 if (which, k) == (EDIT, 3) else loan.length]
+        _refuse_small_stack()
         answer = self._functions[which](*words)
         return answer.first, answer.second, answer.third
+
+
+STACK_BYTES = 524288
+"""The stack of a thread that makes a call: ZR400_STACK_BYTES of zr400.h."""
+
+
+def _refuse_small_stack() -> None:
+    """Where a thread's stack is too small for a call, the whole program would end without a word."""
+    if threading.current_thread() is threading.main_thread():
+        size = resource.getrlimit(resource.RLIMIT_STACK)[0]
+    else:
+        size = threading.stack_size()  # 0 where the program has not chosen one
+    if 0 < size < STACK_BYTES:
+        raise RuntimeError(f"a call needs a stack of {STACK_BYTES} bytes, and this thread's has {size}")
 
 
 # ---- in a process of its own
@@ -159,8 +194,132 @@ _LONGEST = 175616 * 8 + 7680
 _ANSWER_BYTES = 24
 
 
-class _Died(RuntimeError):
-    """The worker ended before it had answered."""
+class Running:
+    """A worker process, and the pipes to it and from it."""
+
+    def __init__(self, command: Sequence[str]) -> None:
+        its_input, self.to = _pipe()
+        self.answers, its_output = _pipe()
+        try:
+            self.process = subprocess.Popen(command, stdin=its_input, stdout=its_output, start_new_session=True)
+        except BaseException:
+            self.close()
+            raise
+        finally:
+            os.close(its_input)
+            os.close(its_output)
+
+    def exchange(self, request: memoryview, received: memoryview) -> None:
+        # Asked first, as a program may have set SIGPIPE so that writing to a dead worker would end the program.
+        if self.process.poll() is not None:
+            raise EOFError
+        at = 0
+        while at < len(request):
+            at += os.write(self.to, request[at:])
+        at = 0
+        while at < len(received):
+            got = os.readv(self.answers, [received[at:]])
+            if got == 0:
+                raise EOFError
+            at += got
+
+    def kill(self) -> None:
+        try:
+            os.kill(self.process.pid, signal.SIGKILL)
+        except ProcessLookupError:
+            pass
+
+    def end(self) -> int:
+        """The status of a worker that is no longer wanted. One that goes on, though nobody speaks to it, is ended by force."""
+        self.close()
+        try:
+            return self.process.wait(timeout=5)
+        except subprocess.TimeoutExpired:
+            self.kill()
+            return self.process.wait()
+
+    def close(self) -> None:
+        for pipe in (self.to, self.answers):
+            try:
+                os.close(pipe)
+            except OSError:
+                pass  # the program has closed what it did not open
+
+    def forget(self) -> None:
+        """In a forked child: it is no child of this process, so nobody here shall wait for it."""
+        self.close()
+        self.process.returncode = 0
+
+
+def _pipe() -> Tuple[int, int]:
+    """Never 0, 1 or 2: where a program has closed those, what it prints would go to the worker."""
+    low = os.pipe()
+    first, second = (fcntl.fcntl(end, fcntl.F_DUPFD_CLOEXEC, 3) for end in low)
+    for end in low:
+        os.close(end)
+    return first, second
+
+
+class Attempt:
+    """A call of the worker. It stands by itself, so that a thread may go on with it when nobody waits for it any more."""
+
+    def __init__(self, command: Sequence[str], running: Optional[Running], request: bytes, length: int) -> None:
+        self.running = running
+        self.received = bytearray(length)
+        self.error: Optional[BaseException] = None
+        self._command = command
+        self._request = request
+        self._status = 0
+        self._given_up = False
+        self._at_work = threading.Lock()
+        self._at_work.acquire()
+
+    def make(self) -> None:
+        try:
+            self._make()
+        except BaseException as error:
+            self.error = error
+        finally:
+            self._at_work.release()
+
+    def wait(self) -> None:
+        with self._at_work:
+            pass
+
+    def _make(self) -> None:
+        try:
+            # Whenever an old worker died: no output has been touched, so the call may be made again.
+            if not self._is_answered() and not self._given_up:
+                self.running = Running(self._command)
+                if not self._given_up and not self._is_answered():
+                    raise RuntimeError(f"the zr400 worker ended before it had answered, with status {self._status}")
+        except BaseException:
+            self._drop()
+            raise
+        if self._given_up:
+            self._drop()
+
+    def _is_answered(self) -> bool:
+        if self.running is None:
+            return False
+        try:
+            self.running.exchange(memoryview(self._request), memoryview(self.received))
+            return True
+        except (EOFError, OSError):
+            self._drop()
+            return False
+
+    def _drop(self) -> None:
+        running, self.running = self.running, None
+        if running is not None:
+            self._status = running.end()
+
+    def give_up(self) -> None:
+        """The two sides may be out of step, so the worker ends, now or, where it is only being started, by the thread that starts it."""
+        self._given_up = True
+        running = self.running
+        if running is not None:
+            running.kill()
 
 
 class Worker:
@@ -173,106 +332,75 @@ class Worker:
     def __init__(self, command: Sequence[str]) -> None:
         self._command = list(command)
         self._lock = threading.Lock()
-        self._process: Optional["subprocess.Popen[bytes]"] = None
+        self._running: Optional[Running] = None
+        self._attempt: Optional[Attempt] = None
         atexit.register(self.end)
 
     def call(self, which: int, numbers: Sequence[int], loans: Sequence[Loan]) -> Answer:
         # What is longer than every stated length is refused alike when one byte too many of it is sent.
-        views = [loan.bytes()[: _LONGEST + 1] for loan in loans]
-        lengths = [len(view) for view in views]
-        head = struct.pack("<8Q", which, *numbers, *[0] * (3 - len(numbers)), *lengths, *[0] * (4 - len(loans)))
-        received = bytearray(_ANSWER_BYTES + sum(len(view) for view, loan in zip(views, loans) if loan.written))
-        with self._lock:
-            self._ask([memoryview(head), *views], memoryview(received))
+        sent = [loan.taken(_LONGEST + 1) for loan in loans]
+        head = struct.pack("<8Q", which, *numbers, *[0] * (3 - len(numbers)), *map(len, sent), *[0] * (4 - len(loans)))
+        length = _ANSWER_BYTES + sum(len(part) for part, loan in zip(sent, loans) if loan.written)
+        received = self._ask(b"".join([head, *sent]), length)
         number, place, count = struct.unpack_from("<3Q", received)
         if number == 0:
             _hand_over(received, [loan for loan in loans if loan.written])
         return number, place, count
 
-    def _ask(self, request: Sequence[memoryview], received: memoryview) -> None:
-        if self._process is not None:
+    def _ask(self, request: bytes, length: int) -> bytearray:
+        with self._lock:
+            attempt = self._attempt = Attempt(self._command, self._running, request, length)
             try:
-                self._exchange(self._process, request, received)
-                return
-            except _Died:
-                pass  # whenever that was: no output has been touched, so the call may be made again
-        self._process = subprocess.Popen(
-            self._command, bufsize=0, stdin=subprocess.PIPE, stdout=subprocess.PIPE, start_new_session=True
-        )
-        self._exchange(self._process, request, received)
-
-    def _exchange(self, process: "subprocess.Popen[bytes]", request: Sequence[memoryview], received: memoryview) -> None:
-        try:
-            # Asked first, as a program may have set SIGPIPE so that writing to a dead worker would end the program.
-            if process.poll() is not None:
-                raise EOFError
-            for part in request:
-                _send(process.stdin, part)
-            _fill(process.stdout, received)
-        except (BrokenPipeError, EOFError):
-            self._process = None
-            raise _Died(f"the zr400 worker ended before it had answered, with status {_status(process)}") from None
-        except BaseException:
-            # The two sides may be out of step, so the next call starts a worker anew.
-            self.end()
-            raise
+                self._running = None
+                _make_apart(attempt)
+                self._running = attempt.running
+            except BaseException:
+                attempt.give_up()
+                raise
+            finally:
+                self._attempt = None
+        if attempt.error is not None:
+            raise attempt.error
+        return attempt.received
 
     def end(self) -> None:
         """Ends the process by force: it keeps nothing, and another process may still hold its input open."""
-        process, self._process = self._process, None
-        if process is not None:
-            process.kill()
-            _status(process)
+        running, self._running = self._running, None
+        if running is not None:
+            running.kill()
+            running.end()
 
     def forget(self) -> None:
         """In a forked child the worker stays its parent's, and the next call starts another."""
-        process, self._process, self._lock = self._process, None, threading.Lock()
-        if process is not None:
-            _close(process)
-            process.returncode = 0  # it is no child of this process, so nobody here shall wait for it
+        known = {self._running, self._attempt.running if self._attempt is not None else None}
+        self._running, self._attempt, self._lock = None, None, threading.Lock()
+        for running in known:
+            if running is not None:
+                running.forget()
 
 
-def _send(pipe: Optional[IO[bytes]], view: memoryview) -> None:
-    assert pipe is not None
-    at = 0
-    while at < len(view):
-        at += os.write(pipe.fileno(), view[at:])
-
-
-def _fill(pipe: Optional[IO[bytes]], view: memoryview) -> None:
-    assert pipe is not None
-    at = 0
-    while at < len(view):
-        got = os.readv(pipe.fileno(), [view[at:]])
-        if got == 0:
-            raise EOFError
-        at += got
-
-
-def _status(process: "subprocess.Popen[bytes]") -> int:
-    """The status of a worker that is no longer wanted. One that closed its output and goes on is ended by force."""
-    _close(process)
+def _make_apart(attempt: Attempt) -> None:
+    """Interrupts are raised in the main thread alone. So there another thread makes the call, and no part of starting, asking or ending
+    a process is ever left half done. It is no Thread, whose own bookkeeping would swallow some of them."""
+    if threading.current_thread() is not threading.main_thread():
+        attempt.make()
+        return
     try:
-        return process.wait(timeout=5)
-    except subprocess.TimeoutExpired:
-        process.kill()
-        return process.wait()
-
-
-def _close(process: "subprocess.Popen[bytes]") -> None:
-    for pipe in (process.stdin, process.stdout):
-        if pipe is not None:
-            pipe.close()
+        _thread.start_new_thread(attempt.make, ())
+    except RuntimeError:  # the interpreter ends, and starts no thread any more
+        attempt.make()
+        return
+    attempt.wait()
 
 
 def _hand_over(received: bytearray, outputs: Sequence[Loan]) -> None:
-    """Copies what stands behind the answer into the outputs."""
-    lengths = [loan.length for loan in outputs]
+    """Copies what stands behind the answer into the outputs, all of it or nothing."""
     source = ctypes.addressof(ctypes.c_char.from_buffer(received)) + _ANSWER_BYTES
-    sources = [source + sum(lengths[:k]) for k in range(len(lengths))]
-    # Python raises a KeyboardInterrupt between two of its own steps only. This loop has none: map, memmove and deque are C,
-    # so an interrupt comes before the first copy or after the last.
-    collections.deque(map(ctypes.memmove, [loan.address for loan in outputs], sources, lengths), maxlen=0)
+    copies = []
+    for loan in outputs:
+        copies.append(functools.partial(ctypes.memmove, loan.address, source, loan.length))
+        source += loan.length
+    _in_one_step(*copies)
 
 
 # ---- where the library is
@@ -285,6 +413,8 @@ _loading = threading.Lock()
 def library() -> _Library:
     """The library, looked for at the first call."""
     global _loaded
+    if _loaded is not None:  # without the lock, so that a signal handler may call too
+        return _loaded
     with _loading:
         if _loaded is None:
             _loaded = _load()
@@ -297,7 +427,7 @@ def _load() -> _Library:
         return InProcess(path)
     program = os.environ.get("ZR400_WORKER")
     if program:
-        return Worker(command(program))
+        return Worker(command(os.path.abspath(program)))  # the program may go to another folder
     if is_native():
         return InProcess(_found("libzr400.so"))
     return Worker(command(_found("zr400-worker")))
@@ -312,7 +442,7 @@ def _found(file: str) -> str:
     named = os.environ.get("ZR400_OUT")
     folders = [named] if named else [_HERE, os.path.join(_HOSTS, "out")]
     for folder in folders:
-        path = os.path.join(folder, file)
+        path = os.path.abspath(os.path.join(folder, file))
         if os.path.exists(path):
             return path
     raise OSError(f"{file} is not in {' nor in '.join(folders)}: make it by the script hosts/build")
@@ -329,7 +459,10 @@ def command(program: str) -> List[str]:
             f"zr400 is made for x86-64, and on this machine ({machine}) it needs the Rattle kit, whose emulator runs the coder: "
             "the kit's command rt is not on the PATH"
         )
-    guide = subprocess.run([rt, "doc"], check=True, stdout=subprocess.PIPE).stdout.decode().strip()
+    said = subprocess.run([rt, "doc"], stdout=subprocess.PIPE)
+    if said.returncode != 0:
+        raise OSError(f"the Rattle kit does not say where it is: {rt} doc ended with status {said.returncode}")
+    guide = said.stdout.decode().strip()
     tools = os.path.join(os.path.dirname(os.path.dirname(guide)), "on", machine, "toolchain")
     emulator = os.path.join(tools, "bin", "qemu-x86_64")
     if not os.path.exists(emulator):
