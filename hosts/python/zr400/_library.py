@@ -271,12 +271,15 @@ class Attempt:
         self._request = request
         self._status = 0
         self._given_up = False
+        self._turn = threading.Lock()
         self._at_work = threading.Lock()
         self._at_work.acquire()
 
     def make(self) -> None:
         try:
-            self._make()
+            with self._turn:
+                if not self._given_up:
+                    self._make()
         except BaseException as error:
             self.error = error
         finally:
@@ -315,11 +318,20 @@ class Attempt:
             self._status = running.end()
 
     def give_up(self) -> None:
-        """The two sides may be out of step, so the worker ends, now or, where it is only being started, by the thread that starts it."""
+        """The two sides may be out of step, so the worker ends. Where it is only being started, the thread that starts it sees to that."""
         self._given_up = True
         running = self.running
         if running is not None:
             running.kill()
+        try:
+            _thread.start_new_thread(self._clear, ())
+        except RuntimeError:
+            pass  # the interpreter ends
+
+    def _clear(self) -> None:
+        """Where the thread that was to make the call never came to it."""
+        with self._turn:
+            self._drop()
 
 
 class Worker:
