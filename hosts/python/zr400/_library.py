@@ -224,6 +224,8 @@ class Running:
             at += got
 
     def kill(self) -> None:
+        if self.process.returncode is not None:
+            return  # it was waited for, and its number may be another's by now
         try:
             os.kill(self.process.pid, signal.SIGKILL)
         except ProcessLookupError:
