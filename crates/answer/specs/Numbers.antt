@@ -40,3 +40,15 @@ padNotZero = 8
 -- edit: a word to be listed fails a check; its place is the word
 abbrev pub listedFails : ℕ
 listedFails = 9
+
+-- archive: fewer than 16 bytes, or the first bytes differ
+abbrev pub notArchive : ℕ
+notArchive = 10
+
+-- archive: count missing or outside 1..32, or a kind outside 1..3 in a whole entry; its place is the entry
+abbrev pub badEntry : ℕ
+badEntry = 11
+
+-- archive: an entry cut off, or an offset or the end not where the rule puts it; its place is the entry
+abbrev pub misplaced : ℕ
+misplaced = 12

@@ -30,6 +30,12 @@ pub const PAD_NOT_ZERO: u64 = 8;
 
 pub const LISTED_FAILS: u64 = 9;
 
+pub const NOT_ARCHIVE: u64 = 10;
+
+pub const BAD_ENTRY: u64 = 11;
+
+pub const MISPLACED: u64 = 12;
+
 // Done, with its count.
 pub fn granted(count: u64) -> Answer
     ensures { λ r. ⌜ r ≡ done count ⌝ }

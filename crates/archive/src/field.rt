@@ -1,0 +1,60 @@
+// Numbers in bytes, high byte first, and the fields of entries.
+ghost use mathlib.Core.Path.{_≡_};
+ghost use Prim.Native.Nat.{_+_, _*_, _^_, _≤_, _<_};
+ghost use lib.ListN.{length, getD};
+ghost use Rattle.archive_spec.specs.File.{mostEntries, headBytes, fixedBytes, fixed, bytesOf, numberAt};
+ghost use Rattle.archive_spec.specs.Read.{replaced};
+ghost use Rattle.archive_spec.specs.Steps.{fieldIn, Number};
+use crate::BEFORE_ENTRIES;
+use crate::ENTRY_BYTES;
+
+// Byte k of those with which every capture file begins.
+pub(crate) fn fixed_byte(k: usize) -> u8
+    requires { ⌜ k < fixedBytes ⌝ }
+    ensures { λ r. ⌜ r ≡ getD fixed k 0 ⌝ }
+{
+    let text = b"400ZR CAPTURE 1\n";
+    text[k]
+}
+
+// Where entry e begins, which is how long a head of e entries is.
+pub(crate) fn entry_from(e: usize) -> usize
+    requires { ⌜ e ≤ mostEntries ⌝ }
+    ensures { λ r. ⌜ r ≡ headBytes e ⌝ }
+{
+    BEFORE_ENTRIES + ENTRY_BYTES * e
+}
+
+// The number that the k bytes from byte a on are; past the end there are zeros.
+pub(crate) fn number_at(k: usize, s: &[u8], a: usize) -> u64
+    requires { ⌜ (k ≤ 4) × (a ≤ 1000) ⌝ }
+    ensures { λ r. ⌜ Number k (now (s .entry)) a r ⌝ }
+{
+    let mut x: u64 = 0;
+    let mut j = 0;
+    while j < k {
+        x = x * 256 + bits::wide(bits::byte_at(s, a + j)) as u64;
+        j += 1;
+    }
+    x
+}
+
+// Writes a number into all bytes of `to`.
+pub(crate) fn put_number(x: u64, to: &mut [u8])
+    requires { ⌜ (length (now to) ≤ 4) × (x < 2 ^ (8 * length (now to))) ⌝ }
+    ensures { λ _. ⌜ now (to .exit) ≡ bytesOf (length (now (to .entry))) x ⌝ }
+{
+    for j in 0..to.len() {
+        to[j] = ((x >> (8 * (to.len() - 1 - j))) % 256) as u8;
+    }
+}
+
+// Lists one field of n entries: the k bytes from byte `at` of each on.
+pub(crate) fn list(first: &[u8], at: usize, k: usize, n: usize, to: &mut [u64])
+    requires { ⌜ (at ≤ 8) × (k ≤ 4) × (n ≤ mostEntries) × (n ≤ length (now to)) ⌝ }
+    ensures { λ _. ⌜ now (to .exit) ≡ replaced n (fieldIn k at (now (first .entry))) (now (to .entry)) ⌝ }
+{
+    for e in 0..n {
+        to[e] = number_at(k, first, entry_from(e) + at);
+    }
+}
