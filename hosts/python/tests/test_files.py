@@ -352,6 +352,23 @@ class Failing(Folder):
             caught = self.fails(OSError, "archive", failing(name, error))
             self.assertEqual((caught.errno, caught.filename), (error.errno, self.archive))
 
+    def test_no_file_is_left_open(self):
+        opened, parts = len(os.listdir(OPEN_FILES)), iter((0, 0, 0, OSError(errno.EIO, "no more")))
+        write = os.write
+
+        def worked(to, data):
+            error = next(parts)
+            if error:
+                raise error
+            return write(to, data)
+
+        try:
+            with writing(worked):
+                zr400.pack(self.archive, [("capture", self.body)] * 2)
+        except OSError:  # while the error still holds on to where it was raised
+            self.assertEqual(len(os.listdir(OPEN_FILES)), opened)
+        self.assertEqual(list(parts), [])
+
     def test_an_old_file_stays_where_the_new_one_fails(self):
         self.file("archive", b"old")
         for name in ("write", "fsync", "replace"):

@@ -77,6 +77,7 @@ class Stored:
 
     def __init__(self, path: str) -> None:
         self._path = path
+        self._file: Optional[io.FileIO] = None
         found = os.stat(path)
         if stat.S_ISDIR(found.st_mode):
             raise IsADirectoryError(errno.EISDIR, os.strerror(errno.EISDIR), path)
@@ -86,18 +87,20 @@ class Stored:
 
     def parts(self) -> Iterator[memoryview]:
         room, left = memoryview(bytearray(min(PART, self.length))), self.length
-        with open_plain(self._path) as file:
-            while left:
-                got = file.readinto(room[: min(PART, left)])
-                if not got:
-                    raise _cut_off(self._path, "packed", self.length, self.length - left)
-                yield room[:got]
-                left -= got
-            if file.read(1):
-                raise OSError(f"{self._path} grew while it was packed: it had {self.length} bytes")
+        self._file = file = open_plain(self._path)
+        while left:
+            got = file.readinto(room[: min(PART, left)])
+            if not got:
+                raise _cut_off(self._path, "packed", self.length, self.length - left)
+            yield room[:got]
+            left -= got
+        if file.read(1):
+            raise OSError(f"{self._path} grew while it was packed: it had {self.length} bytes")
+        file.close()
 
     def end(self) -> None:
-        pass
+        if self._file is not None:
+            self._file.close()
 
 
 Body = Union[Held, Stored]
