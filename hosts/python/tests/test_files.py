@@ -14,7 +14,7 @@ import stat
 import unittest
 from unittest import mock
 
-from common import coded, folder_for, numpy, zr400
+from common import coded, folder_for, forked, numpy, zr400
 from zr400 import _files
 
 BODIES = [("information", b"abcde"), ("parity", b""), ("capture", b"0123456789")]
@@ -575,6 +575,18 @@ class Contents(Folder):
 
         with mock.patch.object(_files, "first_bytes", cut_before), self.assertRaisesRegex(OSError, "archive was cut off while it was opened: it had 50 bytes, and 20 could be read"):
             zr400.contents(self.archive)
+
+
+    def test_a_file_that_is_cut_off_while_it_is_mapped(self):
+        (entry,) = zr400.contents(self.packed([("capture", bytes(1 << 20))]))
+
+        def work():
+            resource.setrlimit(resource.RLIMIT_CORE, (0, 0))
+            os.truncate(self.archive, 100)
+            return entry.body[0] == 0 and entry.body[-1]
+
+        status = forked(work)
+        self.assertTrue(os.WIFSIGNALED(status) and os.WTERMSIG(status) == signal.SIGBUS, status)
 
 
 def mapped_files():
