@@ -467,7 +467,7 @@ pub fn archive_texts() {
     // Written: counts, lengths, offsets and one call for each n of the list lengths are granted.
     assert_eq!(writes[0], 5 + 10 + 3 + 3);
     // Counts, kinds, lengths, offsets, several.
-    assert_eq!(writes[1], 6 + 30 + 14 + 3 + 5);
+    assert_eq!(writes[1], 8 + 36 + 14 + 3 + 5);
     // List lengths, several.
     assert_eq!(writes[2], 78 + 5);
     // Read: counts, sizes, large ones and one call of the list lengths are granted.
@@ -479,7 +479,7 @@ pub fn archive_texts() {
     // Counts, sizes, other counts, kinds, the two shortest files that end in the head, several.
     assert_eq!(reads[11], 2 + 6 + 6 + 105 + 2 + 8);
     // Sizes, another count, fields, files that end in the head twice, several, large ones.
-    assert_eq!(reads[12], 39 + 1 + 280 + 2 * 289 + 6 + 21);
-    assert_eq!(writes.iter().sum::<u64>(), 162);
-    assert_eq!(reads.iter().sum::<u64>(), 1_205);
+    assert_eq!(reads[12], 39 + 1 + 280 + 2 * 289 + 6 + 37);
+    assert_eq!(writes.iter().sum::<u64>(), 170);
+    assert_eq!(reads.iter().sum::<u64>(), 1_221);
 }

@@ -76,7 +76,9 @@ pub fn archive_writes() -> String {
 /// Counts in and outside 1..32. Where the count is large the lists have 40 numbers and the head 400 bytes.
 fn written_counts() -> String {
     let mut text = String::new();
-    for n in [0, 1, 2, 3, 31, 32, 33, 34, 1 << 16, TWO_TO_32, u64::MAX] {
+    let small = [0, 1, 2, 3, 31, 32, 33, 34];
+    let large = [1 << 16, (1 << 16) + 1, TWO_TO_32, TWO_TO_32 + 1, u64::MAX];
+    for n in small.into_iter().chain(large) {
         let mut writing = Writing::right(n.min(40) as usize);
         writing.n = n;
         writing.head = archive::head_length(n).min(400) as usize;
@@ -91,7 +93,7 @@ fn written_numbers() -> String {
     let mut text = String::new();
     for n in [1, 2, 32] {
         for e in [0, n - 1] {
-            for v in [0, 4, 255, 256, u64::MAX] {
+            for v in [0, 4, 255, 256, 257, u64::MAX] {
                 let mut writing = Writing::right(n);
                 writing.kind = (e, v);
                 text += &writing.line();
@@ -363,10 +365,11 @@ fn read_several() -> String {
     text
 }
 
-/// The last body is as long as its field can say, so the file ends beyond what four bytes hold.
+/// The last body is as long as its field can say, so the file ends beyond what four bytes hold; then the first one is, so
+/// that the offsets behind it do not fit, and only their low 32 bits stand there.
 fn read_large() -> String {
     let mut text = String::new();
-    for (n, f) in [(1, 0), (2, 1), (32, 31)] {
+    for (n, f) in [(1, 0), (2, 1), (32, 31), (2, 0), (32, 0)] {
         let right = Reading::right(n, (f, TWO_TO_32 - 1));
         for size in [
             right.size,
