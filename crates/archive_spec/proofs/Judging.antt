@@ -115,6 +115,11 @@ written-head n kinds lengths head e z =
       inside = λ i h. none-handed n kinds lengths refl (g .0) i (rw (k, l) (omega arith));
     }
 
+pub head-counted : (n : ℕ) (kinds lengths head : List ℕ) → writeAnswer n kinds lengths (length head) .number ≡ allDone → Counted n
+unfolding writeAnswer rising rowNumber Passed RowPassed NoFault
+head-counted n kinds lengths head z =
+    write-counted n kinds lengths refl (granted-passed (writeRows n kinds lengths (length head)) (headBytes n) refl refl z .0)
+
 -- ---- reading
 
 -- the first bytes, one by one

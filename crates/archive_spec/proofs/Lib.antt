@@ -4,3 +4,5 @@ pub mod Starts
 pub mod Heads
 pub mod Placing
 pub mod Judging
+pub mod Written
+pub mod Rewritten

@@ -1,4 +1,5 @@
--- Document 02, M-100: writing "agrees with reading both ways". The theorems are `write-read` and `read-write` of proofs/RoundTrip.antt.
+-- Document 02, M-100: writing "agrees with reading both ways". The theorems are `write-read` of proofs/Written.antt and
+-- `read-write` of proofs/Rewritten.antt.
 -- Assumes nothing: these are definitions.
 use Prim.Native.Nat.{ℕ, _<_}
 use mathlib.Core.Path.{_≡_}
