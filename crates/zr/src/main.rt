@@ -1,16 +1,19 @@
 // The coder for people at a shell. The launcher, `zr` at the top of the repository, starts it and says what it takes.
+mod archives;
 mod captures;
 mod places;
 
 use zr_shell::said;
 
-// `Convert` is map, or unmap where it is so.
+// `Convert` is map, or unmap where it is so. `Pack` has the number of bodies.
 enum Command {
     Code,
     Read,
     Edit,
     Convert(bool),
     Runs,
+    Pack(usize),
+    List,
     Unknown,
 }
 
@@ -34,6 +37,12 @@ fn command_of(word: &[u8], arguments: usize) -> Command {
     if check::same(word, b"runs") && arguments == 3 {
         return Command::Runs;
     }
+    if check::same(word, b"pack") && 5 <= arguments && arguments % 2 == 1 {
+        return Command::Pack((arguments - 3) / 2);
+    }
+    if check::same(word, b"list") && arguments == 3 {
+        return Command::List;
+    }
     Command::Unknown
 }
 
@@ -47,6 +56,8 @@ fn main() {
         Command::Edit => captures::edit(),
         Command::Convert(unmapping) => places::convert(unmapping),
         Command::Runs => places::runs(),
+        Command::Pack(entries) => archives::pack(entries),
+        Command::List => archives::list(),
         Command::Unknown => said::unknown(),
     }
 }
