@@ -1,4 +1,5 @@
 // Opens a capture file that is too large to hold: of what a descriptor gives, the first bytes are kept and all bytes are counted.
+ghost use Prim.Native.Nat.{_<_};
 use answer::Answer;
 use archive::MOST_HEAD_BYTES;
 
@@ -25,18 +26,19 @@ pub fn read(
 ) -> Opened {
     let mut first = [0u8; MOST_HEAD_BYTES];
     let seen = look(fd, seek, &mut first);
-    let k = kept(seen.bytes);
+    let k = io::count(kept(seen.bytes), &first);
     Opened {
         fine: seen.fine,
         answer: archive::read(seen.bytes, &first[..k], kinds, offsets, lengths),
     }
 }
 
-fn kept(size: u64) -> usize {
+// So many first bytes are kept.
+fn kept(size: u64) -> isize {
     if size < MOST_HEAD_BYTES as u64 {
-        size as usize
+        size as isize
     } else {
-        MOST_HEAD_BYTES
+        MOST_HEAD_BYTES as isize
     }
 }
 
@@ -47,15 +49,20 @@ fn look(fd: i32, seek: bool, first: &mut [u8]) -> Seen {
         return start;
     }
     if seek {
-        let end = libc::lseek(fd, 0, libc::SEEK_END);
-        if most as i64 <= end {
-            return Seen {
-                fine: true,
-                bytes: end as u64,
-            };
+        let bytes = counted(libc::lseek(fd, 0, libc::SEEK_END));
+        if most <= bytes {
+            return Seen { fine: true, bytes };
         }
     }
     read_until(fd, start.bytes, u64::MAX, first)
+}
+
+// A number below 0 says that the file cannot seek.
+fn counted(end: i64) -> u64 {
+    if end < 0 {
+        return 0;
+    }
+    end as u64
 }
 
 // Reads on from byte `from` until `most` bytes were seen, or to the end.
@@ -84,7 +91,10 @@ fn keep(from: u64, part: &[u8], first: &mut [u8]) {
     }
     let mut at = from as usize;
     let mut k = 0;
-    while k < part.len() && at < first.len() {
+    while k < part.len() {
+        if first.len() <= at {
+            return;
+        }
         first[at] = part[k];
         at += 1;
         k += 1;
@@ -92,7 +102,10 @@ fn keep(from: u64, part: &[u8], first: &mut [u8]) {
 }
 
 // More than can be counted is counted as the most.
-fn grown(bytes: u64, more: u64) -> u64 {
+fn grown(bytes: u64, more: u64) -> u64
+    requires { ⌜ (bytes < 18446744073709551615) × (0 < more) ⌝ }
+    ensures { λ r. ⌜ bytes < r ⌝ }
+{
     if u64::MAX - bytes < more {
         return u64::MAX;
     }

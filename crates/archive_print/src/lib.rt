@@ -6,9 +6,7 @@ pub fn print(kinds: &[u64; 32], offsets: &[u64; 32], lengths: &[u64; 32], count:
     let mut e = 0;
     while e < 32 {
         if (e as u64) < count {
-            print_number(e as u64 + 1);
-            print_kind(kinds[e]);
-            print_extent(offsets[e], lengths[e]);
+            print_entry(e as u64 + 1, kinds[e], offsets[e], lengths[e]);
         }
         e += 1;
     }
@@ -29,7 +27,9 @@ fn print_kind(kind: u64) {
     }
 }
 
-fn print_extent(offset: u64, length: u64) {
+fn print_entry(entry: u64, kind: u64, offset: u64, length: u64) {
+    print_number(entry);
+    print_kind(kind);
     print_number(offset);
     print_text(b" ");
     print_number(length);
