@@ -1,18 +1,17 @@
 // The coder for people at a shell. The launcher, `zr` at the top of the repository, starts it and says what it takes.
-mod archives;
 mod captures;
 mod places;
 
 use zr_shell::said;
 
-// `Convert` is map, or unmap where it is so. `Pack` has the number of bodies.
+// `Convert` is map, or unmap where it is so.
 enum Command {
     Code,
     Read,
     Edit,
     Convert(bool),
     Runs,
-    Pack(usize),
+    Pack,
     List,
     Unknown,
 }
@@ -38,7 +37,7 @@ fn command_of(word: &[u8], arguments: usize) -> Command {
         return Command::Runs;
     }
     if check::same(word, b"pack") && 5 <= arguments && arguments % 2 == 1 {
-        return Command::Pack((arguments - 3) / 2);
+        return Command::Pack;
     }
     if check::same(word, b"list") && arguments == 3 {
         return Command::List;
@@ -56,8 +55,8 @@ fn main() {
         Command::Edit => captures::edit(),
         Command::Convert(unmapping) => places::convert(unmapping),
         Command::Runs => places::runs(),
-        Command::Pack(entries) => archives::pack(entries),
-        Command::List => archives::list(),
+        Command::Pack => zr_archive::pack(),
+        Command::List => zr_archive::list(),
         Command::Unknown => said::unknown(),
     }
 }

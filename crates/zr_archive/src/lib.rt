@@ -1,4 +1,8 @@
-// The commands on capture files. The program makes and reads the head alone: the launcher copies the bodies.
+// The commands on capture files. They make and read the head alone: the launcher copies the bodies.
+ghost use mathlib.Core.Path.{_≡_};
+ghost use Prim.Native.Nat.{_≤_};
+ghost use lib.ListN.{length};
+use answer::Answer;
 use archive::BEFORE_ENTRIES;
 use archive::ENTRY_BYTES;
 use archive::MOST_ENTRIES;
@@ -14,29 +18,57 @@ const MOST_BYTES: usize = BEFORE_ENTRIES + ENTRY_BYTES * LISTED;
 const TOO_LONG: u64 = 4294967296;
 
 // zr pack OUT KIND LENGTH [KIND LENGTH ..]
-pub fn pack(entries: usize) {
-    let mut kinds = [0u64; LISTED];
-    let mut lengths = [0u64; LISTED];
-    let mut e = 0;
-    while e < LISTED {
-        if e < entries {
-            kinds[e] = kind_at(3 + 2 * e);
-            lengths[e] = length_at(4 + 2 * e);
-        }
-        e += 1;
-    }
-    pack_entries(entries, &kinds, &lengths);
-}
-
-fn pack_entries(entries: usize, kinds: &[u64; LISTED], lengths: &[u64; LISTED]) {
+pub fn pack() {
+    let entries = entries_of(os::arg_count());
     let n = listed(entries);
     let k = BEFORE_ENTRIES + ENTRY_BYTES * n;
+    let kinds = kinds_of(n);
+    let lengths = lengths_of(n);
     let mut head = [0u8; MOST_BYTES];
-    make(entries as u64, &kinds[..n], &lengths[..n], &mut head[..k]);
+    make(
+        entries as u64,
+        &kinds[0..n],
+        &lengths[0..n],
+        &mut head[0..k],
+    );
 }
 
-fn listed(entries: usize) -> usize {
-    if entries < LISTED { entries } else { LISTED }
+fn entries_of(arguments: usize) -> usize {
+    if arguments < 3 {
+        return 0;
+    }
+    (arguments - 3) / 2
+}
+
+fn listed(entries: usize) -> usize
+    ensures { λ r. ⌜ r ≤ 33 ⌝ }
+{
+    if entries < LISTED {
+        return entries;
+    }
+    LISTED
+}
+
+fn kinds_of(n: usize) -> [u64; LISTED]
+    requires { ⌜ n ≤ 33 ⌝ }
+    ensures { λ r. ⌜ 33 ≡ length r ⌝ }
+{
+    let mut kinds = [0u64; LISTED];
+    for e in 0..n {
+        kinds[e] = kind_at(3 + 2 * e);
+    }
+    kinds
+}
+
+fn lengths_of(n: usize) -> [u64; LISTED]
+    requires { ⌜ n ≤ 33 ⌝ }
+    ensures { λ r. ⌜ 33 ≡ length r ⌝ }
+{
+    let mut lengths = [0u64; LISTED];
+    for e in 0..n {
+        lengths[e] = length_at(4 + 2 * e);
+    }
+    lengths
 }
 
 fn make(entries: u64, kinds: &[u64], lengths: &[u64], head: &mut [u8]) {
@@ -122,7 +154,7 @@ fn list_from(path: &[u8], fd: i32, seek: bool) {
     let mut offsets = [0u64; MOST_ENTRIES];
     let mut lengths = [0u64; MOST_ENTRIES];
     let opened = archive_input::read(fd, seek, &mut kinds, &mut offsets, &mut lengths);
-    let answer = opened.answer;
+    let answer: Answer = opened.answer;
     if !opened.fine {
         files::unread(path);
     } else if answer.number != 0 {
