@@ -840,3 +840,93 @@ zr_answer zr400_edit(uint64_t n, uint64_t block, const uint8_t *bits, size_t bit
     memcpy(list, words, count * sizeof *list);
     return done(count);
 }
+
+/* ---- capture files */
+
+enum { FIXED_BYTES = 16, COUNT_BYTES = 2, ENTRY_BYTES = 9 };
+
+#define FIELD_MOST 0xffffffffu /* what four bytes hold */
+
+static const char fixed_bytes[] = "400ZR CAPTURE 1\n";
+
+static void put_number(uint8_t *to, size_t bytes, uint64_t x)
+{
+    for (; bytes > 0; x >>= 8)
+        to[--bytes] = (uint8_t)x;
+}
+
+static uint64_t number_at(const uint8_t *from, size_t bytes)
+{
+    uint64_t x = 0;
+    for (size_t i = 0; i < bytes; i++)
+        x = x << 8 | from[i];
+    return x;
+}
+
+static int is_count(uint64_t count) { return count >= 1 && count <= ZR400_MOST_ENTRIES; }
+
+static int is_kind(uint64_t kind) { return kind >= ZR400_KIND_INFORMATION && kind <= ZR400_KIND_CAPTURE; }
+
+static uint64_t smaller(uint64_t a, uint64_t b) { return a < b ? a : b; }
+
+zr_answer zr400_archive_write(uint64_t count, const uint64_t *kinds, size_t kinds_length, const uint64_t *lengths,
+                              size_t lengths_length, uint8_t *head, size_t head_length)
+{
+    if (!is_count(count))
+        return refused(1, 0);
+    uint64_t from = ZR400_HEAD_BYTES(count), handed_in = smaller(count, smaller(kinds_length, lengths_length));
+    for (size_t e = 0; e < handed_in; e++) {
+        if (!is_kind(kinds[e]) || lengths[e] > FIELD_MOST || from > FIELD_MOST)
+            return refused(1, 0);
+        from += lengths[e];
+    }
+    if (kinds_length != count || lengths_length != count || head_length != ZR400_HEAD_BYTES(count))
+        return refused(2, 0);
+    memcpy(head, fixed_bytes, FIXED_BYTES);
+    put_number(head + FIXED_BYTES, COUNT_BYTES, count);
+    from = head_length;
+    for (size_t e = 0; e < count; e++) {
+        uint8_t *entry = head + ZR400_HEAD_BYTES(e);
+        put_number(entry, 1, kinds[e]);
+        put_number(entry + 1, 4, from);
+        put_number(entry + 5, 4, lengths[e]);
+        from += lengths[e];
+    }
+    return done(head_length);
+}
+
+/* What reading answers for a file of `size` bytes where the lengths of the buffers are right. */
+static zr_answer judge_table(uint64_t size, const uint8_t *first)
+{
+    if (size < FIXED_BYTES || memcmp(first, fixed_bytes, FIXED_BYTES) != 0)
+        return refused(10, 0);
+    uint64_t count = size < ZR400_HEAD_BYTES(0) ? 0 : number_at(first + FIXED_BYTES, COUNT_BYTES);
+    if (!is_count(count))
+        return refused(11, 0);
+    uint64_t from = ZR400_HEAD_BYTES(count), whole = smaller(count, (size - ZR400_HEAD_BYTES(0)) / ENTRY_BYTES);
+    for (size_t e = 0; e < whole; e++)
+        if (!is_kind(first[ZR400_HEAD_BYTES(e)]))
+            return refused(11, e + 1);
+    for (size_t e = 0; e < count; e++) {
+        if (e >= whole || number_at(first + ZR400_HEAD_BYTES(e) + 1, 4) != from)
+            return refused(12, e + 1);
+        from += number_at(first + ZR400_HEAD_BYTES(e) + 5, 4);
+    }
+    return from == size ? done(count) : refused(12, count);
+}
+
+zr_answer zr400_archive_read(uint64_t size, const uint8_t *first, size_t first_length, uint64_t *kinds, size_t kinds_length,
+                             uint64_t *offsets, size_t offsets_length, uint64_t *lengths, size_t lengths_length)
+{
+    if (first_length != smaller(size, ZR400_MOST_HEAD_BYTES) || kinds_length != ZR400_MOST_ENTRIES ||
+        offsets_length != ZR400_MOST_ENTRIES || lengths_length != ZR400_MOST_ENTRIES)
+        return refused(2, 0);
+    zr_answer a = judge_table(size, first);
+    for (size_t e = 0; e < a.count; e++) {
+        const uint8_t *entry = first + ZR400_HEAD_BYTES(e);
+        kinds[e] = entry[0];
+        offsets[e] = number_at(entry + 1, 4);
+        lengths[e] = number_at(entry + 5, 4);
+    }
+    return a;
+}

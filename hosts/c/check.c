@@ -126,6 +126,9 @@ static void take_back(struct lent b, void *out, int again)
     munmap(b.map, b.middle + 2 * PAGE);
 }
 
+/* A lent list, and how many numbers it has. */
+#define NUMBERS_OF(b) (uint64_t *)(void *)(b).bytes, (b).length / 8
+
 static void same(zr_answer *kept, zr_answer got, int again)
 {
     if (again && (kept->number != got.number || kept->place != got.place || kept->count != got.count))
@@ -183,7 +186,7 @@ static zr_answer edit(uint64_t n, uint64_t block, const uint8_t *bits, size_t bl
     for (int again = 0; again < 2; again++) {
         struct lent b = lend_input(bits, bl, again), p = lend_input(parity, pl, again);
         struct lent c = lend(capture_before, cl, again), l = lend(list_before, 8 * ll, again);
-        same(&answer, zr400_edit(n, block, b.bytes, bl, p.bytes, pl, c.bytes, cl, (uint64_t *)(void *)l.bytes, ll), again);
+        same(&answer, zr400_edit(n, block, b.bytes, bl, p.bytes, pl, c.bytes, cl, NUMBERS_OF(l)), again);
         take_back(b, NULL, again);
         take_back(p, NULL, again);
         take_back(c, capture, again);
@@ -220,6 +223,49 @@ static zr_answer information(uint64_t n, uint64_t t, const uint8_t *info, size_t
         same(&answer, zr400_information(n, t, i.bytes, il), again);
         take_back(i, NULL, again);
     }
+    return answer;
+}
+
+static zr_answer archive_write(uint64_t n, const uint64_t *kinds, size_t kl, const uint64_t *lengths, size_t ll, uint8_t *head,
+                               size_t hl)
+{
+    zr_answer answer = {0};
+    uint8_t *before = copied(head, hl);
+    for (int again = 0; again < 2; again++) {
+        struct lent k = lend_input(kinds, 8 * kl, again), l = lend_input(lengths, 8 * ll, again), h = lend(before, hl, again);
+        same(&answer, zr400_archive_write(n, NUMBERS_OF(k), NUMBERS_OF(l), h.bytes, hl), again);
+        take_back(k, NULL, again);
+        take_back(l, NULL, again);
+        take_back(h, head, again);
+    }
+    free(before);
+    return answer;
+}
+
+/* The lists of kinds, offsets and lengths. */
+struct table {
+    uint64_t *numbers[3];
+    size_t length[3];
+};
+
+static zr_answer archive_read(uint64_t size, const uint8_t *first, size_t fl, struct table t)
+{
+    zr_answer answer = {0};
+    uint8_t *before[3];
+    struct lent l[3];
+    for (int k = 0; k < 3; k++)
+        before[k] = copied(t.numbers[k], 8 * t.length[k]);
+    for (int again = 0; again < 2; again++) {
+        struct lent f = lend_input(first, fl, again);
+        for (int k = 0; k < 3; k++)
+            l[k] = lend(before[k], 8 * t.length[k], again);
+        same(&answer, zr400_archive_read(size, f.bytes, fl, NUMBERS_OF(l[0]), NUMBERS_OF(l[1]), NUMBERS_OF(l[2])), again);
+        take_back(f, NULL, again);
+        for (int k = 0; k < 3; k++)
+            take_back(l[k], t.numbers[k], again);
+    }
+    for (int k = 0; k < 3; k++)
+        free(before[k]);
     return answer;
 }
 
@@ -610,12 +656,17 @@ static void edits(void)
 
 /* ---- windows: the cases are read from the second program's own lines, given as arguments */
 
+static void numbers_in(char **words, uint64_t *v, int count)
+{
+    for (int i = 0; i < count; i++)
+        v[i] = strtoul(words[i], NULL, 10);
+}
+
 static void windows(int count, char **words)
 {
     for (int k = 0; k + 6 <= count; k += 6) {
         uint64_t v[6], number = (uint64_t)k / 6 + 1;
-        for (int i = 0; i < 6; i++)
-            v[i] = strtoul(words[k + i], NULL, 10);
+        numbers_in(words + k, v, 6);
         printf("case %lu: C %lu f %lu n %lu groups %lu window %lu low %lu\n", number, v[0], v[1], v[2], v[3], v[4], v[5]);
         uint8_t *groups = seeded(500 + number, v[3]), *bytes = seeded(600 + number, v[4]);
         if (v[3] > 0)
@@ -695,12 +746,109 @@ static void parts(void)
     part("one byte long", 1, 4, info, il + 1);
 }
 
+/* ---- capture files: the cases are read from the second program's own lines too */
+
+static uint64_t *kinds_of(size_t length)
+{
+    uint64_t *kinds = room(8 * length);
+    for (size_t i = 0; i < length; i++)
+        kinds[i] = 1 + i % 3;
+    return kinds;
+}
+
+/* The number `at` is another, where the list reaches it. */
+static uint64_t *lengths_of(size_t length, size_t at, uint64_t other)
+{
+    uint64_t *lengths = room(8 * length);
+    for (size_t i = 0; i < length; i++)
+        lengths[i] = i == at ? other : 1000 * (i + 1);
+    return lengths;
+}
+
+static void archive_writes(int count, char **words)
+{
+    for (int k = 0; k + 8 <= count; k += 8) {
+        uint64_t v[8];
+        numbers_in(words + k, v, 8);
+        uint64_t *kinds = kinds_of(v[1]), *lengths = lengths_of(v[2], v[6], v[7]);
+        uint8_t *head = room(v[3]);
+        memset(head, 90, v[3]);
+        if (v[4] < v[1])
+            kinds[v[4]] = v[5];
+        zr_answer a = archive_write(v[0], kinds, v[1], lengths, v[2], head, v[3]);
+        printf("write %lu lists %lu %lu head %lu kind %lu %lu length %lu %lu ", v[0], v[1], v[2], v[3], v[4], v[5], v[6], v[7]);
+        printf(SHOWN " head %016lx\n", NUMBERS(a), digest(head, v[3]));
+        free(kinds);
+        free(lengths);
+        free(head);
+    }
+}
+
+/* The first bytes of a file with a head by the rule, whatever its count, and zeros behind it. */
+enum { FIRST = 400 };
+
+static void put_number(uint8_t *to, size_t bytes, uint64_t x)
+{
+    for (; bytes > 0; x >>= 8)
+        to[--bytes] = (uint8_t)x;
+}
+
+static uint8_t *file_of(uint64_t n, const uint64_t *kinds, const uint64_t *lengths)
+{
+    uint8_t *bytes = room(FIRST);
+    uint64_t from = ZR400_HEAD_BYTES(n);
+    memset(bytes, 0, FIRST);
+    memcpy(bytes, "400ZR CAPTURE 1\n", 16);
+    put_number(bytes + 16, 2, n);
+    for (size_t e = 0; e < n; e++) {
+        put_number(bytes + ZR400_HEAD_BYTES(e), 1, kinds[e]);
+        put_number(bytes + ZR400_HEAD_BYTES(e) + 1, 4, from);
+        put_number(bytes + ZR400_HEAD_BYTES(e) + 5, 4, lengths[e]);
+        from += lengths[e];
+    }
+    return bytes;
+}
+
+/* Three lists one behind the other, so that one digest is that of all. */
+static struct table table_of(const uint64_t *length)
+{
+    struct table t = {{room(8 * (length[0] + length[1] + length[2]))}, {length[0], length[1], length[2]}};
+    t.numbers[1] = t.numbers[0] + length[0];
+    t.numbers[2] = t.numbers[1] + length[1];
+    return t;
+}
+
+static void archive_reads(int count, char **words)
+{
+    for (int k = 0; k + 14 <= count; k += 14) {
+        uint64_t v[14];
+        numbers_in(words + k, v, 14);
+        uint64_t *kinds = kinds_of(v[0]), *lengths = lengths_of(v[0], v[1], v[2]), all = v[11] + v[12] + v[13];
+        uint8_t *first = file_of(v[0], kinds, lengths);
+        for (int set = 4; set < 10; set += 2)
+            if (v[set] < FIRST)
+                first[v[set]] = (uint8_t)v[set + 1];
+        size_t fl = (v[3] < ZR400_MOST_HEAD_BYTES ? v[3] : ZR400_MOST_HEAD_BYTES) + v[10];
+        struct table t = table_of(v + 11);
+        for (size_t i = 0; i < all; i++)
+            t.numbers[0][i] = 7;
+        zr_answer a = archive_read(v[3], first, fl > 0 ? fl - 1 : 0, t);
+        printf("read %lu length %lu %lu size %lu set %lu %lu %lu %lu %lu %lu ", v[0], v[1], v[2], v[3], v[4], v[5], v[6], v[7], v[8], v[9]);
+        printf("first %lu lists %lu %lu %lu " SHOWN, v[10], v[11], v[12], v[13], NUMBERS(a));
+        printf(" lists %016lx\n", digest_numbers(t.numbers[0], all));
+        free(kinds);
+        free(lengths);
+        free(first);
+        free(t.numbers[0]);
+    }
+}
+
 /* ---- sentences */
 
 static void sentences(void)
 {
-    static const uint64_t beyond[2] = {10, UINT64_MAX};
-    for (uint64_t number = 0; number < 10; number++)
+    static const uint64_t beyond[2] = {13, UINT64_MAX};
+    for (uint64_t number = 0; number < beyond[0]; number++)
         printf("%lu %s\n", number, zr400_sentence(number));
     for (int k = 0; k < 2; k++)
         printf("%lu %s\n", beyond[k], zr400_sentence(beyond[k]));
@@ -725,11 +873,15 @@ int main(int count, char **words)
         places();
     else if (strcmp(name, "parts") == 0)
         parts();
+    else if (strcmp(name, "archive_writes") == 0)
+        archive_writes(count - 2, words + 2);
+    else if (strcmp(name, "archive_reads") == 0)
+        archive_reads(count - 2, words + 2);
     else if (strcmp(name, "sentences") == 0)
         sentences();
     else if (strcmp(name, "random") == 0 && count > 2)
         random_calls(strtoul(words[2], NULL, 10));
     else
-        stop("usage: check coded|readings|edits|windows CASE..|places|parts|sentences|random SEED");
+        stop("usage: check coded|readings|edits|windows CASE..|places|parts|archive_writes CASE..|archive_reads CASE..|sentences|random SEED");
     return 0;
 }

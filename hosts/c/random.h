@@ -145,6 +145,70 @@ static void random_capture(struct generator *g)
     free(capture);
 }
 
+/* Opens the file of `end` bytes that begins with `first`: as it is, with another size, or with other bytes in its head. */
+static void random_open(struct generator *g, uint8_t *first, uint64_t head, uint64_t end)
+{
+    uint64_t size = end, which = below(g, 6), lists[3] = {ZR400_MOST_ENTRIES, ZR400_MOST_ENTRIES, ZR400_MOST_ENTRIES};
+    static const uint64_t other[3] = {0, ZR400_MOST_ENTRIES - 1, ZR400_MOST_ENTRIES + 1};
+    if (which == 0)
+        size = nasty(g, end);
+    else if (which == 1)
+        size = below(g, ZR400_MOST_HEAD_BYTES + 1);
+    else if (which == 2 || which == 4)
+        for (uint64_t k = 2; k <= which; k++) {
+            uint64_t at = below(g, head);
+            first[at] = (uint8_t)below(g, 256);
+        }
+    size_t fl = size < ZR400_MOST_HEAD_BYTES ? size : ZR400_MOST_HEAD_BYTES;
+    which = below(g, 40);
+    if (which == 0)
+        fl = 0;
+    else if (which == 1)
+        fl += 1;
+    else if (which < 5)
+        lists[which - 2] = other[below(g, 3)];
+    struct table t = table_of(lists);
+    size_t all = lists[0] + lists[1] + lists[2];
+    for (size_t i = 0; i < all; i++)
+        t.numbers[0][i] = number_from(g);
+    zr_answer a = archive_read(size, first, fl, t);
+    printf("open %lu by %lu of %lu %lu %lu: " SHOWN, size, fl, lists[0], lists[1], lists[2], NUMBERS(a));
+    printf(" lists %016lx\n", digest_numbers(t.numbers[0], all));
+    free(t.numbers[0]);
+}
+
+/* Makes the head of a capture file, and opens one that begins with it, or with any bytes where it was refused. */
+static void random_archive(struct generator *g)
+{
+    uint64_t n = below(g, 8) == 0 ? nasty(g, 32) : 1 + below(g, 32), k = n >= 1 && n <= 32 ? n : 1;
+    size_t kl = k, ll = k, hl = ZR400_HEAD_BYTES(k);
+    switch (below(g, 40)) {
+    case 0: kl = 0; break;
+    case 1: ll = 0; break;
+    case 2: hl = 0; break;
+    case 3: kl += 1; break;
+    case 4: ll -= 1; break;
+    case 5: hl += 1; break;
+    }
+    uint64_t *kinds = room(8 * kl), *lengths = room(8 * ll), end = hl;
+    for (size_t i = 0; i < kl; i++)
+        kinds[i] = below(g, 200) == 0 ? nasty(g, 3) : 1 + below(g, 3);
+    for (size_t i = 0; i < ll; i++)
+        lengths[i] = below(g, 100) == 0 ? nasty(g, 0xffffffffu) : below(g, 1 << 27);
+    uint8_t *head = bytes_from(g, hl), *first = bytes_from(g, FIRST);
+    zr_answer a = archive_write(n, kinds, kl, lengths, ll, head, hl);
+    printf("archive N %lu of %lu %lu %lu: " SHOWN " head %016lx\n", n, kl, ll, hl, NUMBERS(a), digest(head, hl));
+    if (a.number == 0)
+        memcpy(first, head, hl);
+    for (size_t i = 0; a.number == 0 && i < ll; i++)
+        end += lengths[i];
+    random_open(g, first, ZR400_HEAD_BYTES(k), end);
+    free(kinds);
+    free(lengths);
+    free(head);
+    free(first);
+}
+
 static void random_calls(uint64_t seed)
 {
     struct generator g = {seed};
@@ -158,4 +222,6 @@ static void random_calls(uint64_t seed)
         random_part(&g);
     for (int k = 0; k < 16; k++)
         random_capture(&g);
+    for (int k = 0; k < 400; k++)
+        random_archive(&g);
 }

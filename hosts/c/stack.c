@@ -13,6 +13,8 @@ enum { N = 8, ROOM = 8 << 20, PATTERN = 0xa5, D = 10216, WINDOW = 10220 };
 static uint8_t info[ZR400_INFORMATION_BYTES(N)], parity[ZR400_PARITY_BYTES(N)], capture[ZR400_CAPTURE_BYTES(N)];
 static uint8_t groups[ZR400_GROUPS_BYTES(D)], window[ZR400_WINDOW_BYTES(WINDOW)], bits[ZR400_CLIENT_BYTES];
 static uint64_t list[ZR400_LIST_LENGTH];
+static uint64_t kinds[ZR400_MOST_ENTRIES], offsets[ZR400_MOST_ENTRIES], lengths[ZR400_MOST_ENTRIES];
+static uint8_t head[ZR400_MOST_HEAD_BYTES];
 
 static void stop(const char *what)
 {
@@ -90,6 +92,17 @@ static void *edit_done(void *unused)
     return unused;
 }
 
+/* A capture file of as many entries as there can be, all empty. */
+static void *archive(void *unused)
+{
+    for (size_t e = 0; e < ZR400_MOST_ENTRIES; e++)
+        kinds[e] = ZR400_KIND_CAPTURE;
+    expect(zr400_archive_write(ZR400_MOST_ENTRIES, kinds, ZR400_MOST_ENTRIES, lengths, ZR400_MOST_ENTRIES, head, sizeof head), 0);
+    expect(zr400_archive_read(sizeof head, head, sizeof head, kinds, ZR400_MOST_ENTRIES, offsets, ZR400_MOST_ENTRIES, lengths,
+                              ZR400_MOST_ENTRIES), 0);
+    return unused;
+}
+
 /* The bytes of the stack that a thread used. */
 static size_t used_by(void *(*task)(void *))
 {
@@ -115,7 +128,7 @@ int main(void)
         const char *name;
         void *(*task)(void *);
     } tasks[] = {{"no call", no_call},     {"run and runs", places},          {"map and unmap", windows},       {"code", code},      {"read", read_whole},
-                 {"edit", edit_done},      {"read with flips", read_flipped}, {"edit, refused", edit_refused}};
+                 {"edit", edit_done},      {"read with flips", read_flipped}, {"edit, refused", edit_refused}, {"archive", archive}};
     size_t most = 0;
     for (size_t k = 0; k < sizeof tasks / sizeof *tasks; k++) {
         size_t used = used_by(tasks[k].task);

@@ -16,6 +16,9 @@ const char *zr400_sentence(uint64_t number)
     case 7: return "reading: CRC wrong";
     case 8: return "reading: pad not zero";
     case 9: return "edit: a word to be listed fails a check";
+    case 10: return "archive: fewer than 16 bytes, or the first bytes differ";
+    case 11: return "archive: count missing or outside 1..32, or a kind outside 1..3 in a whole entry";
+    case 12: return "archive: an entry cut off, or an offset or the end not where the rule puts it";
     default: return "a number that this library does not give";
     }
 }

@@ -19,9 +19,9 @@ struct call {
 /* For each call in the header's order, how many buffers it has, and from which one on it may write. */
 static const struct {
     unsigned buffers, written;
-} shapes[] = {{0, 0}, {0, 0}, {2, 1}, {2, 1}, {1, 1}, {3, 2}, {3, 1}, {4, 2}};
+} shapes[] = {{0, 0}, {0, 0}, {2, 1}, {2, 1}, {1, 1}, {3, 2}, {3, 1}, {4, 2}, {3, 2}, {4, 1}};
 
-enum { RUN, RUNS, MAP, UNMAP, INFORMATION, CODE, READ, EDIT, CALLS };
+enum { RUN, RUNS, MAP, UNMAP, INFORMATION, CODE, READ, EDIT, ARCHIVE_WRITE, ARCHIVE_READ, CALLS };
 
 static void stop(const char *what)
 {
@@ -54,6 +54,9 @@ static void put(const void *from, size_t length)
     }
 }
 
+/* A buffer that is a list, and how many numbers it has. */
+#define LIST(k) (uint64_t *)(void *)b[k], l[k] / 8
+
 static zr_answer answer(const struct call *c, uint8_t *b[BUFFERS])
 {
     const uint64_t *n = c->numbers, *l = c->lengths;
@@ -68,7 +71,9 @@ static zr_answer answer(const struct call *c, uint8_t *b[BUFFERS])
     case INFORMATION: return zr400_information(n[0], n[1], b[0], l[0]);
     case CODE: return zr400_code(n[0], n[1], b[0], l[0], b[1], l[1], b[2], l[2]);
     case READ: return zr400_read(n[0], n[1], b[0], l[0], b[1], l[1], b[2], l[2]);
-    default: return zr400_edit(n[0], n[1], b[0], l[0], b[1], l[1], b[2], l[2], (uint64_t *)(void *)b[3], l[3] / 8);
+    case EDIT: return zr400_edit(n[0], n[1], b[0], l[0], b[1], l[1], b[2], l[2], LIST(3));
+    case ARCHIVE_WRITE: return zr400_archive_write(n[0], LIST(0), LIST(1), b[2], l[2]);
+    default: return zr400_archive_read(n[0], b[0], l[0], LIST(1), LIST(2), LIST(3));
     }
 }
 

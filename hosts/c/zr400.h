@@ -1,27 +1,30 @@
 /* The 400ZR line coder for C and C++: the functions of the proved library libzr400.
  *
  * N, m0, t, c, j, f, n and block are whole numbers as document 01 (the scope) names them. Bits are packed first bit in
- * the top bit of the first byte. A buffer is a pointer and its length: in bytes, and for `list` in numbers of 64 bits.
- * A buffer of length 0 may be a null pointer. Two buffers of one call must not overlap where one of them is written.
- * The library keeps no state, allocates nothing and calls nothing back: any number of threads may use it at once, each
- * with a stack of at least ZR400_STACK_BYTES.
+ * the top bit of the first byte. A buffer is a pointer and its length: in bytes, and for a list (`list`, `kinds`, `offsets`,
+ * `lengths`) in numbers of 64 bits. A buffer of length 0 may be a null pointer. Two buffers of one call must not overlap
+ * where one of them is written. The library keeps no state, allocates nothing and calls nothing back: any number of
+ * threads may use it at once, each with a stack of at least ZR400_STACK_BYTES.
  *
  * Every call answers a number. 0 is "done"; any other number is a refusal, and a refusal changes no byte of any buffer.
  *
- *   no.  given exactly when                            place
- *   0    done                                          0
- *   1    a number is outside its stated set            0
- *   2    a buffer's length is not the stated one       0
- *   3    a spare bit is not zero                       0
- *   4    reading: a word beyond repair                 word
- *   5    reading: a filler word not zero after repair  word
- *   6    reading: MBAS not the expected number         FEC block of the capture
- *   7    reading: CRC wrong                            FEC block of the capture
- *   8    reading: pad not zero                         super frame
- *   9    edit: a word to be listed fails a check       word
+ *   no.  given exactly when                                                                place
+ *   0    done                                                                              0
+ *   1    a number is outside its stated set                                                0
+ *   2    a buffer's length is not the stated one                                           0
+ *   3    a spare bit is not zero                                                           0
+ *   4    reading: a word beyond repair                                                     word
+ *   5    reading: a filler word not zero after repair                                      word
+ *   6    reading: MBAS not the expected number                                             FEC block of the capture
+ *   7    reading: CRC wrong                                                                FEC block of the capture
+ *   8    reading: pad not zero                                                             super frame
+ *   9    edit: a word to be listed fails a check                                           word
+ *   10   archive: fewer than 16 bytes, or the first bytes differ                           0
+ *   11   archive: count missing or outside 1..32, or a kind outside 1..3 in a whole entry  the entry
+ *   12   archive: an entry cut off, or an offset or the end not where the rule puts it     the entry
  *
  * If several apply, the smallest number is given, then the smallest place. Words, FEC blocks and super frames count
- * from 0. The count of a refusal is 0.
+ * from 0, the entries of a capture file from 1; 11 at place 0 speaks of the count. The count of a refusal is 0.
  */
 #ifndef ZR400_H
 #define ZR400_H
@@ -45,6 +48,14 @@ extern "C" {
 #define ZR400_WORDS(N) ((size_t)10976 * (size_t)(N) + 480)
 #define ZR400_WINDOW_BYTES(n) ((size_t)257 * (size_t)(n) / 2)                 /* n places, n even */
 #define ZR400_GROUPS_BYTES(d) (((size_t)257 * (size_t)(d) + 1) / 2)           /* d data places */
+
+/* A capture file, the archive of document 02: its head has an entry for each of its 1..32 bodies, which stand behind it. */
+#define ZR400_MOST_ENTRIES 32u                                        /* also the numbers in each list that reading fills */
+#define ZR400_MOST_HEAD_BYTES 306u
+#define ZR400_HEAD_BYTES(count) ((size_t)9 * (size_t)(count) + 18)
+#define ZR400_KIND_INFORMATION 1u
+#define ZR400_KIND_PARITY 2u
+#define ZR400_KIND_CAPTURE 3u
 
 /* The stack of a thread that makes any of the calls: 512 KiB. A call takes at most three quarters of it, as hosts/check
  * measures; the rest is for the thread's own frames and data. A thread that has much of these needs so much more. */
@@ -81,6 +92,16 @@ zr_answer zr400_read(uint64_t n, uint64_t m0, const uint8_t *capture, size_t cap
 /* Replaces one client block and its FEC block's parity in the capture, and lists the words it wrote; the count is their number. */
 zr_answer zr400_edit(uint64_t n, uint64_t block, const uint8_t *bits, size_t bits_length, const uint8_t *parity,
                      size_t parity_length, uint8_t *capture, size_t capture_length, uint64_t *list, size_t list_length);
+
+/* Makes the head of a capture file whose `count` bodies have these kinds and lengths, at most 2^32 - 1 bytes each. They stand
+ * behind it in this order, and only the last may end beyond 4 GiB. The count is the bytes of the head. */
+zr_answer zr400_archive_write(uint64_t count, const uint64_t *kinds, size_t kinds_length, const uint64_t *lengths,
+                              size_t lengths_length, uint8_t *head, size_t head_length);
+
+/* Opens the capture file of `size` bytes by its first 306, or by all where it has fewer, and lists its table. The count is the
+ * entries; what stands behind them in a list stays. */
+zr_answer zr400_archive_read(uint64_t size, const uint8_t *first, size_t first_length, uint64_t *kinds, size_t kinds_length,
+                             uint64_t *offsets, size_t offsets_length, uint64_t *lengths, size_t lengths_length);
 
 /* The table's sentence for a number, and for a number that no call gives a sentence that says so. The text stays. */
 const char *zr400_sentence(uint64_t number);

@@ -4,6 +4,8 @@
 
 #[path = "../../second/src/answer.rs"]
 mod answer;
+#[path = "../../second/src/archive.rs"]
+mod archive;
 #[path = "../../second/src/bits.rs"]
 mod bits;
 #[path = "../../second/src/capture.rs"]
@@ -226,6 +228,85 @@ fn random_capture(g: &mut Generator) {
     random_edit(g, n, 4_760 * k, &mut captured);
 }
 
+/// Opens the file of `end` bytes that begins with `first`: as it is, with another size, or with other bytes in its head.
+fn random_open(g: &mut Generator, first: &mut [u8], head: usize, end: u64) {
+    let mut size = end;
+    let which = g.below(6);
+    match which {
+        0 => size = nasty(g, end),
+        1 => size = g.below(307),
+        2 | 4 => {
+            for _ in 2..=which {
+                let at = g.below(head as u64) as usize;
+                first[at] = g.below(256) as u8;
+            }
+        }
+        _ => {}
+    }
+    let mut first_length = size.min(306) as usize;
+    let mut lists = [32, 32, 32];
+    match g.below(40) {
+        0 => first_length = 0,
+        1 => first_length += 1,
+        which @ 2..=4 => lists[which as usize - 2] = [0, 31, 33][g.below(3) as usize],
+        _ => {}
+    }
+    let mut numbers: Vec<u64> = (0..lists.iter().sum::<usize>()).map(|_| g.number()).collect();
+    let (kinds, others) = numbers.split_at_mut(lists[0]);
+    let (offsets, lengths) = others.split_at_mut(lists[1]);
+    let a = archive::read(size, &first[..first_length], kinds, offsets, lengths);
+    println!(
+        "open {} by {} of {} {} {}: {} lists {}",
+        size,
+        first_length,
+        lists[0],
+        lists[1],
+        lists[2],
+        shown(a),
+        digest_of_numbers(&numbers)
+    );
+}
+
+/// Makes the head of a capture file, and opens one that begins with it, or with any bytes where it was refused.
+fn random_archive(g: &mut Generator) {
+    let n = if g.below(8) == 0 { nasty(g, 32) } else { 1 + g.below(32) };
+    let k = if n >= 1 && n <= 32 { n as usize } else { 1 };
+    let (mut kinds_length, mut lengths_length, mut head_length) = (k, k, 18 + 9 * k);
+    match g.below(40) {
+        0 => kinds_length = 0,
+        1 => lengths_length = 0,
+        2 => head_length = 0,
+        3 => kinds_length += 1,
+        4 => lengths_length -= 1,
+        5 => head_length += 1,
+        _ => {}
+    }
+    let kinds: Vec<u64> = (0..kinds_length)
+        .map(|_| if g.below(200) == 0 { nasty(g, 3) } else { 1 + g.below(3) })
+        .collect();
+    let lengths: Vec<u64> = (0..lengths_length)
+        .map(|_| if g.below(100) == 0 { nasty(g, 0xffff_ffff) } else { g.below(1 << 27) })
+        .collect();
+    let mut head = g.bytes(head_length);
+    let mut first = g.bytes(400);
+    let a = archive::write(n, &kinds, &lengths, &mut head);
+    println!(
+        "archive N {} of {} {} {}: {} head {}",
+        n,
+        kinds_length,
+        lengths_length,
+        head_length,
+        shown(a),
+        digest(&head)
+    );
+    let mut end = head_length as u64;
+    if a.number == 0 {
+        first[..head_length].copy_from_slice(&head);
+        end += lengths.iter().sum::<u64>();
+    }
+    random_open(g, &mut first, 18 + 9 * k, end);
+}
+
 fn main() {
     let seed = std::env::args().nth(1).and_then(|word| word.parse().ok());
     let g = &mut Generator::new(seed.expect("usage: oracle SEED"));
@@ -240,5 +321,8 @@ fn main() {
     }
     for _ in 0..16 {
         random_capture(g);
+    }
+    for _ in 0..400 {
+        random_archive(g);
     }
 }

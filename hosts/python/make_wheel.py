@@ -33,7 +33,7 @@ Requires-Python: >=3.8
 Platform: Linux
 Description-Content-Type: text/plain
 
-The 400ZR line coder for Python: whole captures coded, read and edited, GMP windows mapped and unmapped.
+The 400ZR line coder for Python: whole captures coded, read and edited, GMP windows mapped and unmapped, capture files packed and listed.
 
     import zr400
     capture = zr400.code(2, 7, information, parity)
@@ -97,7 +97,7 @@ def build_sdist(sdist_directory: str, config_settings: Optional[Dict[str, Any]] 
 
 def _members(version: str, origin: str, out: str) -> List[Member]:
     package = os.path.join(_HERE, "zr400")
-    files = [Member(f"zr400/{file}", _read(os.path.join(package, file))) for file in ("__init__.py", "_library.py", "py.typed")]
+    files = [Member(f"zr400/{file}", _read(os.path.join(package, file))) for file in ("__init__.py", "_files.py", "_library.py", "py.typed")]
     files.append(Member("zr400/VERSION", f"{version}\n".encode("ascii")))
     for file in ("libzr400.so", "zr400-worker"):
         files.append(Member(f"zr400/{file}", _read(os.path.join(out, file)), 0o755))

@@ -1,6 +1,7 @@
 //! The independent second program of the 400ZR line coder. See README.md.
 
 mod answer;
+mod archive;
 mod bits;
 mod capture;
 mod fec;
@@ -29,6 +30,8 @@ const NAMES: &[(&str, &[Piece])] = &[
     ),
     ("test_edits", &[texts::edits]),
     ("test_edges", &[texts::edges, texts::vectors]),
+    ("archive_list", &[archive_list]),
+    ("test_archive", &[texts::archive_writes, texts::archive_reads]),
     ("zr", &[texts::zr]),
     // Texts that no program prints.
     ("table7", &[texts::table7]),
@@ -45,6 +48,8 @@ const NAMES: &[(&str, &[Piece])] = &[
     ("edges", &[texts::edges]),
     ("capture_edges", &[texts::capture_edges]),
     ("vectors", &[texts::vectors]),
+    ("archive_writes", &[texts::archive_writes]),
+    ("archive_reads", &[texts::archive_reads]),
 ];
 
 fn main() {
@@ -68,7 +73,7 @@ fn usage() -> String {
     for (name, _) in NAMES {
         text += &format!("  {}\n", name);
     }
-    text + "gmp_runs without LINE reads standard input.\n"
+    text + "gmp_runs without LINE and archive_list read standard input.\n"
 }
 
 /// The run listing for LINE or, without one, for standard input.
@@ -83,4 +88,9 @@ fn gmp_runs() -> String {
         }
     }
     gmp::run_program(&input)
+}
+
+/// The listing of the archive file on standard input.
+fn archive_list() -> String {
+    archive::list_program(std::io::stdin().lock())
 }

@@ -1,1 +1,2 @@
--- The proofs of the code.
+-- That each contract has one answer.
+pub mod Unique

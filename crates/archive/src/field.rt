@@ -2,11 +2,12 @@
 ghost use mathlib.Core.Path.{_≡_};
 ghost use Prim.Native.Nat.{_+_, _*_, _^_, _≤_, _<_};
 ghost use lib.ListN.{length, getD};
-ghost use Rattle.archive_spec.specs.File.{mostEntries, headBytes, fixedBytes, fixed, bytesOf, numberAt};
-ghost use Rattle.archive_spec.specs.Read.{replaced};
-ghost use Rattle.archive_spec.specs.Steps.{fieldIn, Number};
+ghost use Rattle.archive_spec.specs.File.{mostEntries, headBytes, fixedBytes, fixed, bytesOf, numberAt, countOutside, kindOutside};
+ghost use Rattle.archive_spec.specs.Read.{overwritten};
+ghost use Rattle.archive_spec.specs.Steps.{fieldIn, Number, placed};
 use crate::BEFORE_ENTRIES;
 use crate::ENTRY_BYTES;
+use crate::MOST_ENTRIES;
 
 // Byte k of those with which every capture file begins.
 pub(crate) fn fixed_byte(k: usize) -> u8
@@ -15,6 +16,26 @@ pub(crate) fn fixed_byte(k: usize) -> u8
 {
     let text = b"400ZR CAPTURE 1\n";
     text[k]
+}
+
+// Whether it is no count of entries.
+pub(crate) fn count_outside(n: u64) -> bool
+    ensures { λ r. ⌜ r ≡ countOutside n ⌝ }
+{
+    if n < 1 {
+        return true;
+    }
+    (MOST_ENTRIES as u64) < n
+}
+
+// Whether it is no kind of body.
+pub(crate) fn kind_outside(kind: u64) -> bool
+    ensures { λ r. ⌜ r ≡ kindOutside kind ⌝ }
+{
+    if kind < 1 {
+        return true;
+    }
+    3 < kind
 }
 
 // Where entry e begins, which is how long a head of e entries is.
@@ -39,20 +60,20 @@ pub(crate) fn number_at(k: usize, s: &[u8], a: usize) -> u64
     x
 }
 
-// Writes a number into all bytes of `to`.
-pub(crate) fn put_number(x: u64, to: &mut [u8])
-    requires { ⌜ (length (now to) ≤ 4) × (x < 2 ^ (8 * length (now to))) ⌝ }
-    ensures { λ _. ⌜ now (to .exit) ≡ bytesOf (length (now (to .entry))) x ⌝ }
+// Writes a number into the k bytes from byte `at` on.
+pub(crate) fn put_number(x: u64, k: usize, at: usize, to: &mut [u8])
+    requires { ⌜ (k ≤ 4) × (x < 2 ^ (8 * k)) × (at + k ≤ length (now to)) ⌝ }
+    ensures { λ _. ⌜ now (to .exit) ≡ placed (now (to .entry)) at (bytesOf k x) ⌝ }
 {
-    for j in 0..to.len() {
-        to[j] = ((x >> (8 * (to.len() - 1 - j))) % 256) as u8;
+    for j in 0..k {
+        to[at + j] = ((x >> (8 * (k - 1 - j))) % 256) as u8;
     }
 }
 
 // Lists one field of n entries: the k bytes from byte `at` of each on.
 pub(crate) fn list(first: &[u8], at: usize, k: usize, n: usize, to: &mut [u64])
     requires { ⌜ (at ≤ 8) × (k ≤ 4) × (n ≤ mostEntries) × (n ≤ length (now to)) ⌝ }
-    ensures { λ _. ⌜ now (to .exit) ≡ replaced n (fieldIn k at (now (first .entry))) (now (to .entry)) ⌝ }
+    ensures { λ _. ⌜ now (to .exit) ≡ overwritten n (fieldIn k at (now (first .entry))) (now (to .entry)) ⌝ }
 {
     for e in 0..n {
         to[e] = number_at(k, first, entry_from(e) + at);

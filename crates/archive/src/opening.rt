@@ -1,14 +1,12 @@
 // What reading answers.
 ghost use mathlib.Core.Path.{_≡_};
-ghost use Prim.Native.Nat.{_≤_, _<_, min, suc};
-ghost use lib.ListN.{length};
-ghost use lib.Dec.{ltb};
+ghost use Prim.Native.Nat.{_≤_, _<_, min};
 ghost use Rattle.prelude.specs.Loops.{first};
 ghost use Rattle.answer.specs.Rows.{answerOf};
 ghost use Rattle.archive_spec.specs.File.{mostEntries, mostHeadBytes, fieldMost, countIn};
-ghost use Rattle.archive_spec.specs.Write.{anyBelow};
-ghost use Rattle.archive_spec.specs.Read.{fixedDiffers, isNoArchive, badKind, offRule, openEarlyRows, openLateRows, openAnswer};
-ghost use Rattle.archive_spec.specs.Steps.{offRuleAt};
+ghost use Rattle.archive_spec.specs.Read.{isNoArchive, badKind, offRule, openEarlyRows, openLateRows, openAnswer};
+ghost use Rattle.archive_spec.specs.Steps.{badCountOf, offRuleAt, entriesAnswer};
+use crate::BEFORE_ENTRIES;
 use crate::MOST_ENTRIES;
 use crate::MOST_HEAD_BYTES;
 use crate::field;
@@ -55,15 +53,22 @@ fn judge_file(size: u64, first: &[u8]) -> Answer
         return answer::refuse(answer::NOT_ARCHIVE, 0);
     }
     let n = field::number_at(2, first, 16);
-    if size < 18 || n < 1 || (MOST_ENTRIES as u64) < n {
+    if is_bad_count(size, n) {
         return answer::refuse(answer::BAD_ENTRY, 0);
     }
-    let k = n as usize;
-    let bad = first_bad_kind(size, first, k) as u64;
-    let off = first_off_rule(size, first, k) as u64;
-    let a = answer::granted(n);
-    let b = answer::refuse_if(off < n, answer::MISPLACED, off + 1, a);
-    answer::refuse_if(bad < n, answer::BAD_ENTRY, bad + 1, b)
+    judge_entries(size, first, n as usize)
+}
+
+// 11 and 12 of the n entries.
+fn judge_entries(size: u64, first: &[u8], n: usize) -> Answer
+    requires { ⌜ n ≤ mostEntries ⌝ }
+    ensures { λ r. ⌜ r ≡ entriesAnswer size (now (first .entry)) n ⌝ }
+{
+    let bad = first_bad_kind(size, first, n);
+    let off = first_off_rule(size, first, n);
+    let a = answer::granted(n as u64);
+    let b = answer::refuse_if(off < n, answer::MISPLACED, off as u64 + 1, a);
+    answer::refuse_if(bad < n, answer::BAD_ENTRY, bad as u64 + 1, b)
 }
 
 fn is_no_archive(size: u64, first: &[u8]) -> bool
@@ -80,6 +85,15 @@ fn is_no_archive(size: u64, first: &[u8]) -> bool
         k += 1;
     }
     false
+}
+
+fn is_bad_count(size: u64, n: u64) -> bool
+    ensures { λ r. ⌜ r ≡ badCountOf size n ⌝ }
+{
+    if size < BEFORE_ENTRIES as u64 {
+        return true;
+    }
+    field::count_outside(n)
 }
 
 // The first whole entry whose kind is none, or n.
@@ -104,8 +118,7 @@ fn is_bad_kind(size: u64, s: &[u8], e: usize) -> bool
     if size < field::entry_from(e + 1) as u64 {
         return false;
     }
-    let kind = field::number_at(1, s, field::entry_from(e));
-    kind < 1 || 3 < kind
+    field::kind_outside(field::number_at(1, s, field::entry_from(e)))
 }
 
 // The first entry that is cut off or not where the rule puts it, or n.
@@ -128,7 +141,7 @@ fn first_off_rule(size: u64, s: &[u8], n: usize) -> usize
 
 // The same of entry e, whose body the rule puts at `from`.
 fn is_off_rule(size: u64, s: &[u8], n: usize, e: usize, from: u64, long: u64) -> bool
-    requires { ⌜ (e < mostEntries) × (from ≤ 200000000000) × (long ≤ fieldMost) ⌝ }
+    requires { ⌜ (e < mostEntries) × (long ≤ fieldMost) ⌝ }
     ensures { λ r. ⌜ r ≡ offRuleAt size (now (s .entry)) n e from long ⌝ }
 {
     if size < field::entry_from(e + 1) as u64 {
@@ -137,5 +150,8 @@ fn is_off_rule(size: u64, s: &[u8], n: usize, e: usize, from: u64, long: u64) ->
     if field::number_at(4, s, field::entry_from(e) + 1) != from {
         return true;
     }
-    e + 1 == n && from + long != size
+    if e + 1 != n {
+        return false;
+    }
+    from + long != size
 }

@@ -1,13 +1,11 @@
 // What writing answers, and the head that it makes.
-ghost use mathlib.Core.Bool.{false};
 ghost use mathlib.Core.Path.{_≡_};
-ghost use Prim.Native.Nat.{_≤_, _<_, min};
+ghost use Prim.Native.Nat.{_+_, _≤_, min};
 ghost use lib.ListN.{length};
 ghost use Rattle.prelude.specs.Loops.{first};
-ghost use Rattle.archive_spec.specs.File.{mostEntries, entryBytes, fixedBytes, fieldMost, fixed, entryOf, headOf, startOf, kindOutside};
-ghost use Rattle.archive_spec.specs.Write.{nth, anyBelow, entryOutside, handed, writeAnswer};
-ghost use Rattle.archive_spec.specs.Steps.{Head, outsideAt};
-use crate::MOST_ENTRIES;
+ghost use Rattle.archive_spec.specs.File.{mostEntries, entryBytes, fixedBytes, fixed, tableEntry, headOf};
+ghost use Rattle.archive_spec.specs.Write.{nth, entryOutside, writeOutside, writeAnswer};
+ghost use Rattle.archive_spec.specs.Steps.{Head, Inside, outsideAt, placed};
 use crate::field;
 use answer::Answer;
 
@@ -18,44 +16,62 @@ const FIELD_MOST: u64 = 4294967295;
 pub(crate) fn judge(count: u64, kinds: &[u64], lengths: &[u64], head: u64) -> Answer
     ensures { λ r. ⌜ r ≡ writeAnswer count (now (kinds .entry)) (now (lengths .entry)) head ⌝ }
 {
-    if count < 1 || (MOST_ENTRIES as u64) < count {
+    if outside(count, kinds, lengths) {
         return answer::refuse(answer::OUTSIDE_SET, 0);
     }
-    let n = count as usize;
-    if any_outside(n, kinds, lengths) {
-        return answer::refuse(answer::OUTSIDE_SET, 0);
-    }
-    let bytes = field::entry_from(n) as u64;
+    let bytes = field::entry_from(count as usize) as u64;
     let a = answer::granted(bytes);
     let b = answer::refuse_length(3, head, bytes, a);
     let c = answer::refuse_length(2, lengths.len() as u64, count, b);
     answer::refuse_length(1, kinds.len() as u64, count, c)
 }
 
-// Whether an entry that was handed in has a kind, a length or an offset outside its field.
-fn any_outside(n: usize, kinds: &[u64], lengths: &[u64]) -> bool
-    requires { ⌜ n ≤ mostEntries ⌝ }
-    ensures { λ r. ⌜ r ≡ anyBelow (entryOutside n (nth (now (kinds .entry))) (nth (now (lengths .entry)))) (handed n (now (kinds .entry)) (now (lengths .entry))) ⌝ }
+// Whether the count is none, or an entry that was handed in has a kind, a length or an offset outside its field.
+fn outside(count: u64, kinds: &[u64], lengths: &[u64]) -> bool
+    ensures { λ r. ⌜ r ≡ writeOutside count (now (kinds .entry)) (now (lengths .entry)) ⌝ }
+{
+    if field::count_outside(count) {
+        return true;
+    }
+    let n = count as usize;
+    let m = least(n, least(kinds.len(), lengths.len()));
+    first_outside(n, m, kinds, lengths) < m
+}
+
+fn least(a: usize, b: usize) -> usize
+    ensures { λ r. ⌜ r ≡ min a b ⌝ }
+{
+    if a < b { a } else { b }
+}
+
+// The first of m entries that is outside its fields, or m.
+fn first_outside(n: usize, m: usize, kinds: &[u64], lengths: &[u64]) -> usize
+    requires { ⌜ (n ≤ mostEntries) × (m ≤ length (now kinds)) × (m ≤ length (now lengths)) ⌝ }
+    ensures { λ r. ⌜ r ≡ first (entryOutside n (nth (now (kinds .entry))) (nth (now (lengths .entry)))) m ⌝ }
 {
     let mut from = field::entry_from(n) as u64;
     let mut e = 0;
-    while e < n && e < kinds.len() && e < lengths.len() {
+    while e < m {
         if is_outside(kinds[e], from, lengths[e]) {
-            return true;
+            return e;
         }
         from += lengths[e];
         e += 1;
     }
-    false
+    e
 }
 
+// The same of one entry, whose body begins at `from`.
 fn is_outside(kind: u64, from: u64, long: u64) -> bool
     ensures { λ r. ⌜ r ≡ outsideAt kind from long ⌝ }
 {
-    if kind < 1 || 3 < kind {
+    if field::kind_outside(kind) {
         return true;
     }
-    FIELD_MOST < long || FIELD_MOST < from
+    if FIELD_MOST < long {
+        return true;
+    }
+    FIELD_MOST < from
 }
 
 // The fixed bytes, the count, and the entries one behind the other.
@@ -63,30 +79,29 @@ pub(crate) fn put_head(n: usize, kinds: &[u64], lengths: &[u64], head: &mut [u8]
     requires { ⌜ Head n (now kinds) (now lengths) (now head) ⌝ }
     ensures { λ _. ⌜ now (head .exit) ≡ headOf n (nth (now (kinds .entry))) (nth (now (lengths .entry))) ⌝ }
 {
-    put_fixed(&mut head[0..16]);
-    field::put_number(n as u64, &mut head[16..18]);
+    put_fixed(head);
+    field::put_number(n as u64, 2, 16, head);
     let mut from = field::entry_from(n) as u64;
     for e in 0..n {
-        let at = field::entry_from(e);
-        put_entry(kinds[e], from, lengths[e], &mut head[at..at + 9]);
+        put_entry(kinds[e], from, lengths[e], field::entry_from(e), head);
         from += lengths[e];
     }
 }
 
-fn put_fixed(to: &mut [u8])
-    requires { ⌜ length (now to) ≡ fixedBytes ⌝ }
-    ensures { λ _. ⌜ now (to .exit) ≡ fixed ⌝ }
+fn put_fixed(head: &mut [u8])
+    requires { ⌜ fixedBytes ≤ length (now head) ⌝ }
+    ensures { λ _. ⌜ now (head .exit) ≡ placed (now (head .entry)) 0 fixed ⌝ }
 {
     for k in 0..16 {
-        to[k] = field::fixed_byte(k);
+        head[k] = field::fixed_byte(k);
     }
 }
 
-fn put_entry(kind: u64, from: u64, long: u64, to: &mut [u8])
-    requires { ⌜ (kindOutside kind ≡ false) × (from ≤ fieldMost) × (long ≤ fieldMost) × (length (now to) ≡ entryBytes) ⌝ }
-    ensures { λ _. ⌜ now (to .exit) ≡ entryOf kind from long ⌝ }
+fn put_entry(kind: u64, from: u64, long: u64, at: usize, head: &mut [u8])
+    requires { ⌜ Inside kind from long × (at + entryBytes ≤ length (now head)) ⌝ }
+    ensures { λ _. ⌜ now (head .exit) ≡ placed (now (head .entry)) at (tableEntry kind from long) ⌝ }
 {
-    field::put_number(kind, &mut to[0..1]);
-    field::put_number(from, &mut to[1..5]);
-    field::put_number(long, &mut to[5..9]);
+    field::put_number(kind, 1, at, head);
+    field::put_number(from, 4, at + 1, head);
+    field::put_number(long, 4, at + 5, head);
 }

@@ -59,12 +59,12 @@ fixed = 52 ∷ 48 ∷ 48 ∷ 90 ∷ 82 ∷ 32 ∷ 67 ∷ 65 ∷ 80 ∷ 84 ∷ 85
 unfoldable pub startOf : ℕ → (ℕ → ℕ) → ℕ → ℕ
 startOf n len e = upto (λ k from. from + len k) (headBytes n) e
 
-unfoldable pub entryOf : ℕ → ℕ → ℕ → List ℕ
-entryOf kind offset len = bytesOf kindBytes kind ++ (bytesOf fieldBytes offset ++ bytesOf fieldBytes len)
+unfoldable pub tableEntry : ℕ → ℕ → ℕ → List ℕ
+tableEntry kind offset len = bytesOf kindBytes kind ++ (bytesOf fieldBytes offset ++ bytesOf fieldBytes len)
 
 -- the head as far as entry e, and all of it
 unfoldable pub headTo : ℕ → (ℕ → ℕ) → (ℕ → ℕ) → ℕ → List ℕ
-headTo n kind len e = upto (λ k s. s ++ entryOf (kind k) (startOf n len k) (len k)) (fixed ++ bytesOf countBytes n) e
+headTo n kind len e = upto (λ k s. s ++ tableEntry (kind k) (startOf n len k) (len k)) (fixed ++ bytesOf countBytes n) e
 
 abbrev pub headOf : ℕ → (ℕ → ℕ) → (ℕ → ℕ) → List ℕ
 headOf n kind len = headTo n kind len n

@@ -69,13 +69,13 @@ openRows size s kinds offsets lengths = openEarlyRows size (length s) kinds offs
 unfoldable pub openAnswer : ℕ → List ℕ → ℕ → ℕ → ℕ → Answer
 openAnswer size s kinds offsets lengths = answerOf (openRows size s kinds offsets lengths) (countIn s)
 
--- a list with its first n numbers replaced; the others stay
-abbrev pub replaced : ℕ → (ℕ → ℕ) → List ℕ → List ℕ
-replaced n f old = tabulate n f ++ drop n old
+-- a list with its first n numbers overwritten; the others stay
+abbrev pub overwritten : ℕ → (ℕ → ℕ) → List ℕ → List ℕ
+overwritten n f old = tabulate n f ++ drop n old
 
 abbrev pub tableIn : List ℕ → List ℕ → List ℕ → List ℕ → List ℕ × (List ℕ × List ℕ)
 tableIn s kinds offsets lengths =
-    (replaced (countIn s) (kindIn s) kinds, (replaced (countIn s) (offsetIn s) offsets, replaced (countIn s) (lengthIn s) lengths))
+    (overwritten (countIn s) (kindIn s) kinds, (overwritten (countIn s) (offsetIn s) offsets, overwritten (countIn s) (lengthIn s) lengths))
 
 -- what the three lists hold afterwards
 unfoldable pub openLeaves : ℕ → List ℕ → List ℕ → List ℕ → List ℕ → List ℕ × (List ℕ × List ℕ)

@@ -7,7 +7,7 @@ use lib.ListN.{length, take, drop}
 use Rattle.answer.specs.Rows.{done}
 use Rattle.archive_spec.specs.File.{headBytes, mostEntries, mostHeadBytes, startOf, fileOf, countIn}
 use Rattle.archive_spec.specs.Write.{nth, writeAnswer, writeLeaves}
-use Rattle.archive_spec.specs.Read.{openAnswer, openLeaves, replaced}
+use Rattle.archive_spec.specs.Read.{openAnswer, openLeaves, overwritten}
 
 -- what was written, with bodies behind it, is read as just those kinds, offsets and lengths, whatever the lists held; each body stands where its
 -- entry says, and the last one ends the file
@@ -16,7 +16,7 @@ pub record WriteRead (n : ℕ) (kinds lengths : List ℕ) (f : List ℕ) (body :
       → openAnswer (length f) (take mostHeadBytes f) (length k) (length o) (length l) ≡ done n
   pub lists : (k o l : List ℕ) → length k ≡ mostEntries → length o ≡ mostEntries → length l ≡ mostEntries
       → openLeaves (length f) (take mostHeadBytes f) k o l
-      ≡ (replaced n (nth kinds) k, (replaced n (startOf n (nth lengths)) o, replaced n (nth lengths) l))
+      ≡ (overwritten n (nth kinds) k, (overwritten n (startOf n (nth lengths)) o, overwritten n (nth lengths) l))
   pub stands : (e : ℕ) → e < n → take (nth lengths e) (drop (startOf n (nth lengths) e) f) ≡ body e
   pub end : length f ≡ startOf n (nth lengths) n
 

@@ -1,13 +1,17 @@
 -- What only the code's steps need. Assumes nothing: these are definitions.
 use Prim.Native.Nat.{ℕ, suc, _+_, _*_, _^_, _<_, _≤_}
-use mathlib.Core.Bool.{Bool, false, not, _&&_, _||_}
+use mathlib.Core.Bool.{Bool, false, cond, not, _&&_, _||_}
 use mathlib.Core.Path.{_≡_}
-use mathlib.Core.List.{List}
+use mathlib.Core.List.{List, _++_}
 use lib.Dec.{ltb, eqb}
-use lib.ListN.{length}
-use Rattle.archive_spec.specs.File.{headBytes, mostEntries, fieldMost, numberAt, kindOutside, offsetIn}
+use lib.ListN.{length, take, drop}
+use Rattle.prelude.specs.Loops.{first}
+use Rattle.answer.specs.Numbers.{badEntry, misplaced}
+use Rattle.answer.specs.Rows.{done, refused}
+use Rattle.answer.specs.declared.Answer.{Answer}
+use Rattle.archive_spec.specs.File.{headBytes, mostEntries, fieldMost, numberAt, countOutside, kindOutside, offsetIn}
 use Rattle.archive_spec.specs.Write.{nth, entryOutside}
-use Rattle.archive_spec.specs.Read.{cutOff}
+use Rattle.archive_spec.specs.Read.{cutOff, badKind, offRule}
 
 -- the k bytes from byte a of entry e on
 abbrev pub fieldIn : ℕ → ℕ → List ℕ → ℕ → ℕ
@@ -18,12 +22,33 @@ pub record Number (k : ℕ) (s : List ℕ) (a r : ℕ) : Type 0 where
   pub is : r ≡ numberAt k s a
   pub small : r < 2 ^ (8 * k)
 
+-- a buffer d with s in its place from `at` on
+unfoldable pub placed : List ℕ → ℕ → List ℕ → List ℕ
+placed d at s = take at d ++ (s ++ drop (at + length s) d)
+
 -- an entry by its three numbers, where its body begins at `from`
 unfoldable pub outsideAt : ℕ → ℕ → ℕ → Bool
 outsideAt kind from len = kindOutside kind || (ltb fieldMost len || ltb fieldMost from)
 
 unfoldable pub offRuleAt : ℕ → List ℕ → ℕ → ℕ → ℕ → ℕ → Bool
 offRuleAt size s n e from len = cutOff size e || (not (eqb (offsetIn s e) from) || eqb (suc e) n && not (eqb (from + len) size))
+
+-- the count missing or outside its set
+abbrev pub badCountOf : ℕ → ℕ → Bool
+badCountOf size n = ltb size (headBytes 0) || countOutside n
+
+-- what is answered of n entries, by the first that are bad
+unfoldable pub entriesAnswer : ℕ → List ℕ → ℕ → Answer
+entriesAnswer size s n =
+    let bad = first (badKind size s) n in
+    let off = first (offRule size s n) n in
+    cond (ltb bad n) (refused badEntry (bad + 1)) (cond (ltb off n) (refused misplaced (off + 1)) (done n))
+
+-- three numbers that their fields hold
+pub record Inside (kind from len : ℕ) : Type 0 where
+  pub kind-inside : kindOutside kind ≡ false
+  pub from-inside : from ≤ fieldMost
+  pub len-inside : len ≤ fieldMost
 
 -- what a granted write has shown
 pub record Head (n : ℕ) (kinds lengths head : List ℕ) : Type 0 where

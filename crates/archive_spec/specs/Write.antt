@@ -25,13 +25,16 @@ unfoldable pub entryOutside : ℕ → (ℕ → ℕ) → (ℕ → ℕ) → ℕ �
 entryOutside n kind len e = kindOutside (kind e) || (ltb fieldMost (len e) || ltb fieldMost (startOf n len e))
 
 -- the entries below the count that were handed in: both lists reach them
-abbrev pub handed : ℕ → List ℕ → List ℕ → ℕ
-handed n kinds lengths = min n (min (length kinds) (length lengths))
+abbrev pub handedIn : ℕ → List ℕ → List ℕ → ℕ
+handedIn n kinds lengths = min n (min (length kinds) (length lengths))
+
+unfoldable pub writeOutside : ℕ → List ℕ → List ℕ → Bool
+writeOutside n kinds lengths = countOutside n || anyBelow (entryOutside n (nth kinds) (nth lengths)) (handedIn n kinds lengths)
 
 -- the table of writing; its buffers are the two lists and the head
 abbrev pub writeRows : ℕ → List ℕ → List ℕ → ℕ → List Row
 writeRows n kinds lengths head =
-    whole outsideSet (countOutside n || anyBelow (entryOutside n (nth kinds) (nth lengths)) (handed n kinds lengths))
+    whole outsideSet (writeOutside n kinds lengths)
     ∷ buffers wrongLength (wrong n (length kinds) ∷ wrong n (length lengths) ∷ wrong (headBytes n) head ∷ [])
     ∷ []
 

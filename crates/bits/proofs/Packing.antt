@@ -5,10 +5,11 @@ use mathlib.Core.List.{List, [], _∷_}
 use native.Mathlib.Nat.{add-zero, mul-comm, div-eq-of-lt, mod-lt, mul-add-div, mul-add-mod-self-left, mod-eq-of-lt, div-lt-iff-lt-mul, div-add-mod}
 use native.Mathlib.Nat.{zero-mul, zero-div, mul-le-mul-left, mul-zero, mul-one, zero-add, add-comm, add-assoc}
 use native.Mathlib.Omega.{arith}
-use lib.ListN.{length, getD, take, drop, replicate, List·getD-eq-default}
+use lib.ListN.{length, getD, take, drop, replicate, length-take, List·getD-eq-default}
 use lib.Seq.{getD-take, getD-drop}
 use Rattle.prelude.specs.Lists.{fromIndex}
-use Rattle.bits.specs.Bits.{num, digit, bitOf, packs, Bits}
+use Rattle.bits.specs.Bits.{num, digit, bitOf, packs, Bits, Bytes}
+use Rattle.prelude.proofs.Common.{by-bound}
 use Rattle.prelude.proofs.Lists.{length-tabulate, getD-tabulate, tabulate-ext, tabulate-getD}
 use Rattle.bits.proofs.Numbers.{num-ext, num-split, num-front, num-back, digit-num, digit-lt, num-is}
 
@@ -114,6 +115,14 @@ bitOf-part w s a n i l =
     let d : (w * a + i) / w ≡ a + i / w = mul-add-div p a i in
     let m : (w * a + i) % w ≡ i % w = mul-add-mod-self-left w a i in
     rw (d, m, getD-take n (drop a s) (i / w) 0 q, getD-drop a s (i / w) 0)
+
+-- and its bytes are bytes
+pub part-bytes : (s : List ℕ) (a n : ℕ) → Bytes s → Bytes (take n (drop a s))
+part-bytes s a n h k = by-bound n k (λ l. rw (getD-take n (drop a s) k 0 l, getD-drop a s k 0) (h (a + k)))
+    (λ l. rw (List·getD-eq-default (take n (drop a s)) 0 (short l)) (omega arith))
+  where
+    short : n ≤ k → length (take n (drop a s)) ≤ k
+    short l = simp length-take (omega arith)
 
 -- nothing but zeros
 pub getD-zeros : (n k : ℕ) → _≡_ {A = ℕ} (getD (replicate n 0) k 0) 0

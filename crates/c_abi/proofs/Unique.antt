@@ -14,6 +14,8 @@ use Rattle.c_abi.proofs.zr400_information.Reads as information
 use Rattle.c_abi.proofs.zr400_code.Reads as code
 use Rattle.c_abi.proofs.zr400_read.Reads as read
 use Rattle.c_abi.proofs.zr400_edit.Reads as edit
+use Rattle.c_abi.proofs.zr400_archive_write.Reads as archive-write
+use Rattle.c_abi.proofs.zr400_archive_read.Reads as archive-read
 
 pub one-zr400-run : (κs : _) (a : _) (x y : _) (s t : _) → run.Post κs a x s → run.Post κs a y t → x ≡ y
 one-zr400-run κs a x y s t p q = only p q
@@ -45,3 +47,14 @@ one-zr400-read κs a x y s t p q = only-outcome p q
 pub one-zr400-edit : (κs : _) (a : _) (x y : _) (s t : _) → edit.Post κs a x s → edit.Post κs a y t
     → (x ≡ y) × _≡_ {A = List ℕ × List ℕ} (now (s .1 .1 .1 .1 .0), now (s .1 .1 .1 .1 .1 .0)) (now (t .1 .1 .1 .1 .0), now (t .1 .1 .1 .1 .1 .0))
 one-zr400-edit κs a x y s t p q = only-outcome p q
+
+-- part 3 at exit is `head`
+pub one-zr400-archive-write : (κs : _) (a : _) (x y : _) (s t : _) → archive-write.Post κs a x s → archive-write.Post κs a y t
+    → (x ≡ y) × (now (s .1 .1 .1 .0) ≡ now (t .1 .1 .1 .0))
+one-zr400-archive-write κs a x y s t p q = only-outcome p q
+
+-- parts 2, 3 and 4 at exit are `kinds`, `offsets` and `lengths`
+pub one-zr400-archive-read : (κs : _) (a : _) (x y : _) (s t : _) → archive-read.Post κs a x s → archive-read.Post κs a y t
+    → (x ≡ y) × _≡_ {A = List ℕ × (List ℕ × List ℕ)} (now (s .1 .1 .0), (now (s .1 .1 .1 .0), now (s .1 .1 .1 .1 .0)))
+    (now (t .1 .1 .0), (now (t .1 .1 .1 .0), now (t .1 .1 .1 .1 .0)))
+one-zr400-archive-read κs a x y s t p q = only-outcome p q

@@ -2,6 +2,7 @@
 use answer::Answer;
 use gmp::Kind;
 ghost use mathlib.Core.Path.{_≡_};
+ghost use lib.ListN.{length};
 ghost use Rattle.answer.specs.Outcomes.{Outcome};
 ghost use Rattle.gmp.specs.Places.{kindNumber};
 ghost use Rattle.gmp.specs.Answers.{runOf, runsOf};
@@ -10,6 +11,8 @@ ghost use Rattle.code.specs.Code.{codeAnswer, codeLeaves};
 ghost use Rattle.read_spec.specs.Read.{readAnswer, readLeaves};
 ghost use Rattle.edit_spec.specs.Edit.{editAnswer, editLeaves};
 ghost use Rattle.capture.specs.Part.{partAnswer};
+ghost use Rattle.archive_spec.specs.Write.{writeAnswer, writeLeaves};
+ghost use Rattle.archive_spec.specs.Read.{openAnswer, openLeaves};
 ghost use Rattle.c_abi.specs.Hosts.{hosted};
 
 // A run as C is handed it: the kind is a number, 0 for stuff and 1 for data.
@@ -110,6 +113,37 @@ pub extern "C" fn zr400_edit(
         (editLeaves n block (now (bits .entry)) (now (parity .entry)) (now (capture .entry)) (now (list .entry))) r (now (capture .exit), now (list .exit)) ⌝ }
 {
     capture::edit(n, block, bits, parity, capture, list)
+}
+
+// Makes the head of a capture file whose bodies have these kinds and lengths.
+#[no_mangle]
+pub extern "C" fn zr400_archive_write(
+    count: u64,
+    kinds: &[u64],
+    lengths: &[u64],
+    head: &mut [u8],
+) -> Answer
+    ensures { λ r. ⌜ Outcome (writeAnswer count (now (kinds .entry)) (now (lengths .entry)) (length (now (head .entry))))
+        (writeLeaves count (now (kinds .entry)) (now (lengths .entry)) (now (head .entry))) r (now (head .exit)) ⌝ }
+{
+    archive::write(count, kinds, lengths, head)
+}
+
+// Opens the capture file of `size` bytes that begins with `first`, and lists its table.
+#[no_mangle]
+pub extern "C" fn zr400_archive_read(
+    size: u64,
+    first: &[u8],
+    kinds: &mut [u64],
+    offsets: &mut [u64],
+    lengths: &mut [u64],
+) -> Answer
+    ensures { λ r. ⌜ Outcome
+        (openAnswer size (now (first .entry)) (length (now (kinds .entry))) (length (now (offsets .entry))) (length (now (lengths .entry))))
+        (openLeaves size (now (first .entry)) (now (kinds .entry)) (now (offsets .entry)) (now (lengths .entry))) r
+        (now (kinds .exit), (now (offsets .exit), now (lengths .exit))) ⌝ }
+{
+    archive::read(size, first, kinds, offsets, lengths)
 }
 
 // The document's number for a kind.

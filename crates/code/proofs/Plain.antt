@@ -4,11 +4,10 @@ use mathlib.Core.Path.{_≡_, sym, ap, _∙_}
 use mathlib.Core.List.{List}
 use native.Mathlib.Nat.{add-assoc}
 use native.Mathlib.Omega.{arith}
-use lib.ListN.{length, take, drop, replicate, length-take, List·getD-eq-default}
-use lib.Seq.{getD-take, getD-drop}
+use lib.ListN.{length, take, drop, replicate}
 use Rattle.prelude.specs.Lists.{fromIndex}
 use Rattle.bits.specs.Bits.{bitAt, pack, Bits, Bytes}
-use Rattle.bits.proofs.Packing.{bitOf-lt, bitOf-packs, bitOf-part, bitOf-zeros}
+use Rattle.bits.proofs.Packing.{bitOf-lt, bitOf-packs, bitOf-part, part-bytes, bitOf-zeros}
 use Rattle.prelude.proofs.Common.{by-bound}
 use Rattle.prelude.proofs.Lists.{part-long}
 use Rattle.crc.specs.Crc.{crcOf}
@@ -116,13 +115,6 @@ module _ (m0 : ℕ) (info par r : List ℕ) (e : ℕ) (no-pad : e % superElement
       (λ i l. sym (plain-fec F e i no-pad l ∙ held-parity m0 info par block local i h))
 
 -- ---- the CRC of a block's part of the information
-
-part-bytes : (s : List ℕ) (a n : ℕ) → Bytes s → Bytes (take n (drop a s))
-part-bytes s a n h k = by-bound n k (λ l. rw (getD-take n (drop a s) k 0 l, getD-drop a s k 0) (h (a + k)))
-    (λ l. rw (List·getD-eq-default (take n (drop a s)) 0 (short l)) (omega arith))
-  where
-    short : n ≤ k → length (take n (drop a s)) ≤ k
-    short l = simp length-take (omega arith)
 
 pub block-part : (table info : List ℕ) (t n : ℕ) → table ≡ entries → Bytes info → infoBytes * (t + 1) ≤ length info → n ≡ infoBytes
     → crcBy table (take n (drop (infoBytes * t) info)) ≡ blockCrc info t

@@ -36,6 +36,13 @@ pub or-right : (a b : Bool) → a || b ≡ false → b ≡ false
 or-right true b e = absurd (clash refl e)
 or-right false b e = e
 
+-- tests in turn, of which `o` is the first: it holds, or the others decide
+pub or-first : (b : Bool) {a o : Bool} → o ≡ a → o ≡ true → true ≡ a || b
+or-first b p q = rw (← p, q)
+
+pub or-next : {a b o r : Bool} → o ≡ a → o ≡ false → r ≡ b → r ≡ a || b
+or-next p q e = rw (← p, q, e)
+
 -- two comparisons that come out the same
 pub same-test : (a b x y : ℕ) → (a < b → x < y) → (x < y → a < b) → ltb a b ≡ ltb x y
 same-test a b x y p q = by (ltb a b) (ltb x y) refl refl

@@ -57,6 +57,13 @@ first-here {i} {p} {n} e h q = sym (first-is p i n (e .none) h q)
 pub first-end : {i : ℕ} {p : ℕ → Bool} {n : ℕ} → PassedOver i p n → n ≤ i → i ≡ first p n
 first-end {i} {p} {n} e h = let q : i ≡ n = omega (arith, e .within) in q ∙ sym (first-none p n (λ k l. e .none k (omega arith)))
 
+-- the same, where `o` is what a callee that tests i came to
+pub found-here : {i : ℕ} {p : ℕ → Bool} {n : ℕ} {o : Bool} → PassedOver i p n → i < n → o ≡ p i → o ≡ true → i ≡ first p n
+found-here e h q t = first-here e h (sym q ∙ t)
+
+pub found-more : {i : ℕ} {p : ℕ → Bool} {n : ℕ} {o : Bool} → PassedOver i p n → i < n → o ≡ p i → o ≡ false → PassedOver (i + 1) p n
+found-more e h q f = passed-more e h (sym q ∙ f)
+
 -- what is known of `first`: it is at most n; nothing before it is picked; and below n it is picked itself
 pub record First (p : ℕ → Bool) (n k : ℕ) : Type 0 where
   pub within : k ≤ n

@@ -9,7 +9,7 @@ import termios
 import time
 
 # For each call, from which buffer on it may write, as in hosts/c/worker.c.
-WRITTEN = (0, 0, 1, 1, 1, 2, 1, 2)
+WRITTEN = (0, 0, 1, 1, 1, 2, 1, 2, 2, 1)
 
 
 def put(data):

@@ -79,7 +79,7 @@ class Wheel(unittest.TestCase):
 
     def test_what_is_in_it(self):
         with zipfile.ZipFile(self.made()) as wheel:
-            package = ["VERSION", "__init__.py", "_library.py", "libzr400.so", "py.typed", "zr400-worker"]
+            package = ["VERSION", "__init__.py", "_files.py", "_library.py", "libzr400.so", "py.typed", "zr400-worker"]
             told = [f"{TOLD}/{name}" for name in ("METADATA", "RECORD", "WHEEL")]
             self.assertEqual(sorted(wheel.namelist()), sorted([f"zr400/{name}" for name in package] + told))
             self.assertTrue(wheel.getinfo("zr400/zr400-worker").external_attr >> 16 & stat.S_IXUSR)

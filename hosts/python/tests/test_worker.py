@@ -2,12 +2,13 @@
 
 import mmap
 import os
+import re
 import signal
 import struct
 import sys
 import unittest
 
-from common import MINUTE, PYTHON, WORKER, StandIn, _library, coded, folder_for, python, use, use_worker, zr400
+from common import MINUTE, PYTHON, WORKER, StandIn, _library, coded, folder_for, python, text_of, use, use_worker, zr400
 
 BEFORE = b"\xa5" * 40
 
@@ -247,6 +248,24 @@ def interrupted_at(step, call):
     finally:
         sys.settrace(before)
     return False
+
+
+class Order(unittest.TestCase):
+    """The calls are numbered alike wherever they are listed."""
+
+    def test_the_header(self):
+        declared = re.findall(r"^zr_\w+ (\w+)\(([^)]*)\)", "\n".join(text_of("hosts", "c", "zr400.h")), re.M)
+        shapes = [(name, len(re.findall(r"uint64_t \w", words)), words.count("*")) for name, words in declared]
+        self.assertEqual(shapes, list(_library.CALLS))
+
+    def test_the_worker(self):
+        text = "\n".join(text_of("hosts", "c", "worker.c"))
+        names = re.search(r"enum { (RUN, [^}]*), CALLS }", text)[1].lower().split(", ")
+        self.assertEqual([f"zr400_{name}" for name in names], [name for name, _, _ in _library.CALLS])
+        shapes = re.findall(r"{(\d), (\d)}", re.search(r"shapes\[\] = {(.*)};", text)[1])
+        self.assertEqual([int(buffers) for buffers, _ in shapes], [buffers for _, _, buffers in _library.CALLS])
+        told = re.search(r"^WRITTEN = \((.*)\)$", "\n".join(text_of("hosts", "python", "tests", "stand_in.py")), re.M)[1]
+        self.assertEqual([written for _, written in shapes], told.split(", "))
 
 
 class Ways(unittest.TestCase):

@@ -6,10 +6,15 @@
     reading = zr400.read(2, 7, capture)                    # .information .parity .repaired
     words = zr400.edit(2, 4711, bits, parity_of_the_block, capture)    # in place; the words that were written
 
-Numbers and buffers are those of document 01 (the scope). A buffer is any object with contiguous bytes: bytes, bytearray,
+    zr400.pack("monday.zr", [("information", information), ("parity", parity), ("capture", "capture.bin")])
+    for entry in zr400.contents("monday.zr"):              # .number .kind .offset .length .body
+        print(entry.kind, entry.body[:16].hex())
+
+Numbers and buffers are those of document 01 (the scope); capture files are those of document 02, M-100. A buffer is any object with contiguous bytes: bytes, bytearray,
 memoryview, array, mmap or a numpy array. It is lent as it stands and never copied into the library. An output buffer may be lent too;
 where none is, a bytearray of the right length is made and returned. It must hold plain bytes (TypeError, as for what cannot be lent)
 and share no memory with another buffer of the call (ValueError). Bits are packed first bit in the top bit of the first byte.
+A list of a call for capture files holds unsigned numbers of 64 bits, as array("Q") does.
 
 A call that the coder refuses raises `Refused`, and then no byte of any buffer has changed.
 
@@ -25,16 +30,19 @@ With a worker, a signal handler must not call while a call is made.
 """
 
 import array
+import itertools
 import operator
+import os
 import reprlib
-from typing import Any, Dict, List, NamedTuple, Optional, Sequence, Sized, SupportsIndex, Tuple, Type, TypeVar, overload
+from typing import Any, Dict, Iterable, List, NamedTuple, Optional, Sequence, Sized, SupportsIndex, Tuple, Type, TypeVar, Union, overload
 
-from . import _library
+from . import _files, _library
 from ._library import Lent as _Lent
 
 __all__ = [
-    "PLACES", "Reading", "Refused", "Run", "capture_length", "code", "edit", "groups_length", "information",
-    "information_length", "map_window", "parity_length", "read", "run", "runs", "unmap_window", "window_length", "words",
+    "Contents", "Entry", "KINDS", "MOST_ENTRIES", "PLACES", "Reading", "Refused", "Run", "Table", "archive_read", "archive_write",
+    "capture_length", "code", "contents", "edit", "groups_length", "head_length", "information", "information_length", "map_window",
+    "pack", "parity_length", "read", "run", "runs", "unmap_window", "window_length", "words",
 ]
 
 __version__ = _library.version()
@@ -42,17 +50,26 @@ __version__ = _library.version()
 PLACES = 10220
 """The places of an envelope."""
 
+KINDS = ("information", "parity", "capture")
+"""The kinds of bodies in a capture file; in its table they are the numbers 1, 2 and 3."""
+
+MOST_ENTRIES = 32
+"""The most bodies of a capture file, and the numbers in each list that reading one fills."""
+
 _BLOCK_BYTES = 30583
 _BLOCK_PARITY_BYTES = 2048
 _CLIENT_BYTES = 33
 _LIST_LENGTH = 145
+_MOST_HEAD_BYTES = 306
 
 Buffer = Any
 """An object with contiguous bytes: bytes, bytearray, memoryview, array, mmap, numpy array."""
 
+Path = Union[str, bytes, "os.PathLike[str]", "os.PathLike[bytes]"]
+
 _Output = TypeVar("_Output", bound=Sized)
 
-# Document 01, section "Numbers handed back": the sentence, and what the place counts.
+# Document 01, section "Numbers handed back", and document 02: the sentence, and what the place counts.
 _SENTENCES = {
     1: ("a number is outside its stated set", ""),
     2: ("a buffer's length is not the stated one", ""),
@@ -63,20 +80,24 @@ _SENTENCES = {
     7: ("reading: CRC wrong", "FEC block"),
     8: ("reading: pad not zero", "super frame"),
     9: ("edit: a word to be listed fails a check", "word"),
+    10: ("archive: fewer than 16 bytes, or the first bytes differ", ""),
+    11: ("archive: count missing or outside 1..32, or a kind outside 1..3 in a whole entry", "entry"),
+    12: ("archive: an entry cut off, or an offset or the end not where the rule puts it", "entry"),
 }
 
 
 class Refused(ValueError):
-    """The coder refused a call. `number`, `place` and `sentence` are those of document 01's table.
+    """The coder refused a call. `number`, `place` and `sentence` are those of the documents' table. Entries count from 1; 11 at place 0 speaks
+    of the count.
 
     For number 2 `buffer`, `length` and `wanted` are the first wrong buffer's parameter, its bytes and the bytes that are
-    wanted, and the message tells of every wrong one. For other numbers they are None.
+    wanted, or the numbers of a list, and the message tells of every wrong one. For other numbers they are None.
     """
 
-    def __init__(self, number: int, place: int = 0, wrong: Sequence[Tuple[str, int, int]] = ()) -> None:
+    def __init__(self, number: int, place: int = 0, wrong: Sequence[Tuple[str, int, int, str]] = ()) -> None:
         sentence, unit = _SENTENCES.get(number, ("a number that this module does not know", "place"))
-        told = "; ".join(f"{name} has {length} bytes, and {wanted} are wanted" for name, length, wanted in wrong)
-        at = f" at {unit} {place}" if unit else ""
+        told = "; ".join(f"{name} has {length} {items}, and {wanted} are wanted" for name, length, wanted, items in wrong)
+        at = f" at {unit} {place}" if unit and (place or unit != "entry") else ""
         super().__init__(f"refused {number}{at}: {sentence}{': ' if told else ''}{told}")
         self.number = number
         self.place = place
@@ -85,7 +106,7 @@ class Refused(ValueError):
         self.length: Optional[int] = None
         self.wanted: Optional[int] = None
         if wrong:
-            self.buffer, self.length, self.wanted = wrong[0]
+            self.buffer, self.length, self.wanted, _ = wrong[0]
 
     def __reduce__(self) -> Tuple[Any, ...]:
         return _refused_again, (type(self), self.args, self.__dict__)
@@ -115,6 +136,48 @@ class Reading(NamedTuple):
     parity: Buffer
     repaired: int
     """The number of words whose nine checks were not zero."""
+
+
+class Table(NamedTuple):
+    """The table of a capture file: three lists, whose first `count` numbers are its entries."""
+
+    kinds: Buffer
+    offsets: Buffer
+    lengths: Buffer
+    count: int
+
+
+class Entry(NamedTuple):
+    """A body of a capture file."""
+
+    number: int
+    """Counted from 1."""
+    kind: str
+    """'information', 'parity' or 'capture'."""
+    offset: int
+    length: int
+    body: memoryview
+    """The bytes in the file itself, mapped and not copied; they cannot be written."""
+
+
+class Contents(Tuple[Entry, ...]):
+    """The entries of a capture file. The file is mapped as long as there is a body, or anything that was made of one without a copy.
+
+    `close`, and leaving a `with` statement, releases the bodies: after that they cannot be read.
+    """
+
+    def close(self) -> None:
+        for entry in self:
+            try:
+                entry.body.release()
+            except BufferError:
+                pass  # an array was made of it, and keeps it
+
+    def __enter__(self) -> "Contents":
+        return self
+
+    def __exit__(self, *_: object) -> None:
+        self.close()
 
 
 # ---- lengths
@@ -155,6 +218,12 @@ def groups_length(c: SupportsIndex, f: SupportsIndex, n: SupportsIndex) -> int:
     c, f, n = _whole(c=c, f=f, n=n)
     d = (f + n - 1) * c // PLACES - (f - 1) * c // PLACES
     return (257 * d + 1) // 2
+
+
+def head_length(count: SupportsIndex) -> int:
+    """The bytes before the bodies of a capture file that has so many."""
+    (count,) = _whole(count=count)
+    return 18 + 9 * count
 
 
 # ---- the calls
@@ -254,9 +323,115 @@ def edit(n: SupportsIndex, block: SupportsIndex, bits: Buffer, parity: Buffer, c
     n, block = _whole(n=n, block=block)
     listed = array.array("Q", bytes(8 * _LIST_LENGTH))
     taken = _Lent("bits", bits, _CLIENT_BYTES), _Lent("parity", parity, _BLOCK_PARITY_BYTES)
-    given = _Lent("capture", capture, capture_length(n)), _Lent("list", memoryview(listed).cast("B"), 8 * _LIST_LENGTH)
+    given = _Lent("capture", capture, capture_length(n)), _Lent("list", listed, _LIST_LENGTH, is_list=True)
     count = _granted(_library.EDIT, (n, block), taken, given)
     return listed[:count].tolist()
+
+
+@overload
+def archive_write(
+    count: SupportsIndex, kinds: Iterable[SupportsIndex], lengths: Iterable[SupportsIndex], head: None = None
+) -> bytearray: ...
+@overload
+def archive_write(
+    count: SupportsIndex, kinds: Iterable[SupportsIndex], lengths: Iterable[SupportsIndex], head: _Output
+) -> _Output: ...
+def archive_write(
+    count: SupportsIndex, kinds: Iterable[SupportsIndex], lengths: Iterable[SupportsIndex], head: Optional[Buffer] = None
+) -> Buffer:
+    """Makes the head of a capture file whose `count` bodies (1..32) have these kinds (1..3) and lengths (at most 2^32 - 1).
+
+    Returns the head, 18 + 9 count bytes. The bodies are to stand behind it in this order. No body may begin beyond 2^32 - 1; the last may
+    end there. `pack` does all this with files.
+    """
+    (count,) = _whole(count=count)
+    if head is None:
+        head = bytearray(head_length(count) if 1 <= count <= MOST_ENTRIES else 0)
+    taken = [_Lent(name, _listed(name, given), count, is_list=True) for name, given in (("kinds", kinds), ("lengths", lengths))]
+    _granted(_library.ARCHIVE_WRITE, (count,), taken, (_Lent("head", head, head_length(count)),))
+    return head
+
+
+def archive_read(
+    size: SupportsIndex,
+    first: Buffer,
+    kinds: Optional[Buffer] = None,
+    offsets: Optional[Buffer] = None,
+    lengths: Optional[Buffer] = None,
+) -> Table:
+    """Opens the capture file of `size` bytes by its first 306 bytes, or by all where it has fewer, and lists its table.
+
+    The lists have 32 numbers each; where none is lent, it is made. `contents` does all this with a file.
+    """
+    (size,) = _whole(size=size)
+    lists = [array.array("Q", bytes(8 * MOST_ENTRIES)) if lent is None else lent for lent in (kinds, offsets, lengths)]
+    given = [_Lent(name, lent, MOST_ENTRIES, is_list=True) for name, lent in zip(("kinds", "offsets", "lengths"), lists)]
+    taken = _Lent("first", first, min(size, _MOST_HEAD_BYTES))
+    count = _granted(_library.ARCHIVE_READ, (size,), (taken,), given)
+    return Table(*lists, count)
+
+
+# ---- capture files
+
+
+def pack(path: Path, bodies: Iterable[Tuple[Union[str, SupportsIndex], Any]], *, replace: bool = False) -> None:
+    """Writes a capture file of bodies, pairs of a kind and a body, in their order.
+
+    A kind is 'information', 'parity' or 'capture' (or 1, 2 or 3). A body is a buffer, or the name of a file (str or os.PathLike), which is copied
+    in parts and never held whole. One that is cut off or grows meanwhile is an OSError that says so.
+
+    The file is written beside its name as a hidden `.zr-..`, synced, and has its name when it is whole; where anything fails, nothing is
+    left. What is there already stays (FileExistsError), unless `replace` is true: then the name gets the new file in one step, and a link is
+    replaced, not followed. Where the coder refuses the kinds and lengths (`Refused`, number 1), nothing is written.
+    """
+    kinds: List[int] = []
+    taken: List[_files.Body] = []
+    try:
+        for kind, body in bodies:
+            kinds.append(_kind_number(kind))
+            taken.append(_files.body_of(f"body {len(kinds)}", body))
+        head = archive_write(len(taken), kinds, [body.length for body in taken])
+        parts = itertools.chain((head,), *(body.parts() for body in taken))
+        _files.write_whole(os.fsdecode(path), parts, replace)
+    finally:
+        for body in taken:
+            body.end()
+
+
+def contents(path: Path) -> Contents:
+    """The bodies of a capture file, each with its number, kind, offset, length and bytes.
+
+    Only the first 306 bytes are read, and the size. Then the file is mapped: a body is a view of the file itself, of any length, and nothing is
+    copied. A file that the coder refuses is `Refused`, with number 10, 11 or 12 and the place.
+
+    The size is that at opening. If the file is cut off while it is mapped, a body that is read behind the new end ends the whole program
+    by the signal SIGBUS, as with every memory map; so what is still used should be replaced by a new file, as `pack` does, and not cut.
+    """
+    with _files.open_plain(os.fsdecode(path)) as file:
+        size = os.fstat(file.fileno()).st_size
+        table = archive_read(size, _files.first_bytes(file, min(size, _MOST_HEAD_BYTES)))
+        whole = _files.mapped(file, size)
+    found = zip(range(1, table.count + 1), table.kinds, table.offsets, table.lengths)
+    return Contents(Entry(e, KINDS[kind - 1], offset, length, whole[offset : offset + length]) for e, kind, offset, length in found)
+
+
+def _kind_number(kind: Union[str, SupportsIndex]) -> int:
+    if not isinstance(kind, str):
+        return _whole(kind=kind)[0]
+    if kind not in KINDS:
+        raise ValueError(f"kind must be 'information', 'parity' or 'capture', and is {reprlib.repr(kind)}")
+    return KINDS.index(kind) + 1
+
+
+def _listed(name: str, numbers: Iterable[SupportsIndex]) -> Buffer:
+    """A list that is read: where it is one, it is lent as it stands, else copied. A number of no 64 bits is outside its set as the last one is."""
+    if _library.is_list(numbers):
+        return numbers
+    try:
+        whole = [operator.index(number) for number in numbers]
+    except TypeError:
+        raise TypeError(f"{name} must be whole numbers, and is {reprlib.repr(numbers)}") from None
+    return array.array("Q", [number if 0 <= number < 1 << 64 else (1 << 64) - 1 for number in whole])
 
 
 def _whole(**numbers: SupportsIndex) -> List[int]:
@@ -283,7 +458,8 @@ def _granted(which: int, numbers: Sequence[int], inputs: Sequence[_Lent] = (), o
     (number, place, count), lengths = _library.call(which, numbers, inputs, outputs)
     if number == 2:
         lent = zip((*inputs, *outputs), lengths)
-        raise Refused(number, place, [(b.name, length, b.wanted) for b, length in lent if length != b.wanted])
+        wrong = [(b.name, length, b.wanted, "numbers" if b.is_list else "bytes") for b, length in lent if length != b.wanted]
+        raise Refused(number, place, wrong)
     if number:
         raise Refused(number, place)
     return count

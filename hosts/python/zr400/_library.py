@@ -24,19 +24,21 @@ Answer = Tuple[int, int, int]
 CALLS = (
     ("zr400_run", 2, 0), ("zr400_runs", 2, 0), ("zr400_map", 3, 2), ("zr400_unmap", 3, 2),
     ("zr400_information", 2, 1), ("zr400_code", 2, 3), ("zr400_read", 2, 3), ("zr400_edit", 2, 4),
+    ("zr400_archive_write", 1, 3), ("zr400_archive_read", 1, 4),
 )
-RUN, RUNS, MAP, UNMAP, INFORMATION, CODE, READ, EDIT = range(len(CALLS))
+RUN, RUNS, MAP, UNMAP, INFORMATION, CODE, READ, EDIT, ARCHIVE_WRITE, ARCHIVE_READ = range(len(CALLS))
 
 _HERE = os.path.dirname(os.path.abspath(__file__))
 _HOSTS = os.path.dirname(os.path.dirname(_HERE))
 
 
 class Lent(NamedTuple):
-    """A buffer of a call: its parameter's name, the object, and the length that document 01 states for it."""
+    """A buffer of a call: its parameter's name, the object, and the length that the documents state for it: in bytes, and for a list in numbers."""
 
     name: str
     buffer: Any
     wanted: int
+    is_list: bool = False
 
 
 def call(which: int, numbers: Sequence[int], inputs: Sequence[Lent], outputs: Sequence[Lent]) -> Tuple[Answer, List[int]]:
@@ -44,11 +46,11 @@ def call(which: int, numbers: Sequence[int], inputs: Sequence[Lent], outputs: Se
     loans: List[Loan] = []
     try:
         for lent in inputs:
-            loans.append(Loan(lent.name, lent.buffer, written=False))
+            loans.append(Loan(lent.name, lent.buffer, written=False, is_list=lent.is_list))
         for lent in outputs:
-            loans.append(Loan(lent.name, lent.buffer, written=True))
+            loans.append(Loan(lent.name, lent.buffer, written=True, is_list=lent.is_list))
         _refuse_overlap(loans)
-        lengths = [loan.length for loan in loans]
+        lengths = [loan.stated for loan in loans]
         if any(x < 0 or x >= 1 << 64 for x in numbers):
             return (1, 0, 0), lengths  # outside every stated set, and no 64-bit number
         return library().call(which, numbers, loans), lengths
@@ -83,15 +85,27 @@ _FIELD_NAME = re.compile(r":[^:]*:")
 # Numbers, characters and raw bytes, alone or in structures and arrays; no object and no pointer, whose bytes are an address.
 _PLAIN = re.compile(r"(?:[@=<>!^\s]|\(\d+(?:,\d+)*\)|\d+|T\{|\}|Z[fdg]|[?bBcsxphHiIlLqQnNefdgFDuw])*")
 _BYTES = re.compile(r"[@=<>!]?[Bbc]")
+# Where an item has eight bytes, these are unsigned numbers as the library reads them, low byte first.
+_NUMBERS = re.compile(r"[@=<]?[LQ]")
+
+
+def is_list(buffer: Any) -> bool:
+    """Whether an object holds unsigned numbers of 64 bits, so that it may be lent as a list."""
+    try:
+        with memoryview(buffer) as view:
+            return view.itemsize == 8 and _NUMBERS.fullmatch(view.format) is not None
+    except (BufferError, TypeError, ValueError):
+        return False
 
 
 class Loan:
     """The bytes of an object, where they stand. Until the loan ends the object can be neither resized nor freed. It is held by a
     memoryview, which gives it back by itself where an interrupt left nobody to do so."""
 
-    def __init__(self, name: str, buffer: Any, written: bool) -> None:
+    def __init__(self, name: str, buffer: Any, written: bool, is_list: bool = False) -> None:
         self.name = name
         self.written = written
+        self.is_list = is_list
         try:
             self._view = memoryview(buffer)
         except (BufferError, TypeError, ValueError) as error:
@@ -99,6 +113,7 @@ class Loan:
         try:
             self._refuse_form()
             self.length: int = self._view.nbytes
+            self.stated: int = self.length // 8 if is_list else self.length
             self.address: int = _address(self._view) if self.length else 0
         except BaseException:
             self.end()
@@ -108,7 +123,9 @@ class Loan:
         form, size = self._view.format, self._view.itemsize
         if not self._view.c_contiguous:
             raise TypeError(f"{self.name} cannot be lent: its bytes do not stand one after the other")
-        if self.written and not (size == 1 and _BYTES.fullmatch(form)):
+        if self.is_list and not (size == 8 and _NUMBERS.fullmatch(form)):
+            raise TypeError(f"{self.name} has items of format {form!r} and {size} bytes: a list must be unsigned numbers of 64 bits")
+        if self.written and not self.is_list and not (size == 1 and _BYTES.fullmatch(form)):
             raise TypeError(f"{self.name} has items of format {form!r} and {size} bytes: an output must be plain bytes")
         if not _PLAIN.fullmatch(_FIELD_NAME.sub(" ", form)):
             raise TypeError(f"{self.name} has items of format {form!r}: objects and pointers cannot be lent as bytes")
@@ -118,6 +135,10 @@ class Loan:
     def taken(self, most: int) -> bytes:
         """A copy of its bytes, of no more than so many."""
         return ctypes.string_at(self.address, min(self.length, most)) if self.length else b""
+
+    def content(self) -> memoryview:
+        """Its bytes where they stand, whatever their form: for as long as it is lent."""
+        return memoryview((ctypes.c_ubyte * self.length).from_address(self.address)).cast("B")
 
     def end(self) -> None:
         self._view.release()
@@ -166,8 +187,8 @@ class InProcess:
 
     def call(self, which: int, numbers: Sequence[int], loans: Sequence[Loan]) -> Answer:
         words: List[Optional[int]] = list(numbers)
-        for k, loan in enumerate(loans):
-            words += [loan.address or None, loan.length // 8 if (which, k) == (EDIT, 3) else loan.length]
+        for loan in loans:
+            words += [loan.address or None, loan.stated]
         _refuse_small_stack()
         answer = self._functions[which](*words)
         return answer.first, answer.second, answer.third

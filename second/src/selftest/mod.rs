@@ -1,6 +1,7 @@
 //! Published vectors, and cross-checks of one way of computing a thing against another.
 //! The same tests run with `cargo test` and with `second selftest`.
 
+mod archives;
 mod basics;
 mod capture;
 mod edits;
@@ -79,6 +80,17 @@ tests!(
         edits_equal_coding_afresh,
         edit_of_never_coded,
         edit_refusals;
+    archives:
+        archive_listings,
+        archive_too_large_to_hold,
+        archive_write_refusals,
+        archive_read_refusals,
+        archive_read_lengths,
+        archive_writing_agrees_with_reading,
+        archive_every_size_and_byte,
+        archive_damaged_heads,
+        archive_offsets_do_not_wrap,
+        archive_texts;
     texts:
         refused_lines_keep_their_buffers;
 );

@@ -2,6 +2,7 @@
 //! Every line is made of fixed words, decimal numbers and 16-digit hexadecimal numbers only.
 //! Here stands what several of them share.
 
+mod archives;
 mod capture_edges;
 mod coded;
 mod damage;
@@ -15,6 +16,7 @@ mod windows;
 mod words;
 mod zr;
 
+pub use archives::{archive_reads, archive_writes};
 pub use capture_edges::capture_edges;
 pub use coded::{coded, coded_capture, Coded};
 pub use damage::{flip, put_nonzero, turn, turn_in_block};

@@ -1,59 +1,52 @@
+-- `archive::field::number_at` meets its contract: a byte a turn. Assumes nothing.
+use Prim.Native.Nat.{_-_}
+use mathlib.Core.Path.{_∙_}
+use native.Mathlib.Omega.{arith}
+use Rattle.archive_spec.proofs.Fields.{NumberTo, number-none, number-next, number-all}
+use Rattle.prelude.proofs.LoopLaws.{loops}
 use Rattle.archive.proofs.field.number_at.Statement.{statement}
 use Rattle.archive.proofs.field.number_at.Tie as tie
-use Rattle.archive.proofs.field.number_at.Reads as reads
-use Rattle.archive.proofs.field.number_at.Lts as lts
-use Rattle.bits.proofs.byte_at.Reads as byte-at-reads
-use Rattle.bits.proofs.wide.Reads as wide-reads
 
 abbrev Inv-loop : tie.InvT-loop
-Inv-loop k s a x₀ j₀ x j = ?
+Inv-loop k s a x₀ j₀ x j = NumberTo k s a j x
 
 abbrev μ-loop : tie.MeasureT-loop
-μ-loop k s a x₀ j₀ x j = ?
+μ-loop k s a x₀ j₀ x j = k - j
 
--- src/field.rt:35:5
 loop-holds : tie.Need-loop-holds Inv-loop μ-loop
-loop-holds c = ?
+loop-holds c = search (number-none, number-next, number-all, loops)
 
--- src/field.rt:36:13
 mul-x : tie.Need-mul-x Inv-loop μ-loop
-mul-x c = ?
+mul-x c = search (number-none, number-next, number-all, loops)
 
--- src/field.rt:36:51
 add-byte-at : tie.Need-add-byte-at Inv-loop μ-loop
-add-byte-at c = ?
+add-byte-at c = search (number-none, number-next, number-all, loops)
 
--- src/field.rt:36:34
 byte-at-requires : tie.Need-byte-at-requires Inv-loop μ-loop
-byte-at-requires c κs = ?
+byte-at-requires c κs = search (number-none, number-next, number-all, loops)
 
--- src/field.rt:36:23
 wide-requires : tie.Need-wide-requires Inv-loop μ-loop
-wide-requires c κs = ?
+wide-requires c κs = search (number-none, number-next, number-all, loops)
 
--- src/field.rt:36:23
 cast-x : tie.Need-cast-x Inv-loop μ-loop
-cast-x c = ?
+cast-x c = search (number-none, number-next, number-all, loops)
 
--- src/field.rt:36:13
 add-x : tie.Need-add-x Inv-loop μ-loop
-add-x c = ?
+add-x c = search (number-none, number-next, number-all, loops)
 
--- src/field.rt:37:9
 add-j : tie.Need-add-j Inv-loop μ-loop
-add-j c = ?
+add-j c = search (number-none, number-next, number-all, loops)
 
--- src/field.rt:35:5
 loop-less : tie.Need-loop-less Inv-loop μ-loop
-loop-less c = ?
+loop-less c = search (number-none, number-next, number-all, loops)
 
--- src/field.rt:35:5
 loop-again : tie.Need-loop-again Inv-loop μ-loop
-loop-again c = ?
+loop-again c =
+    let w = c .wide .ensures in
+    number-next (c .before .before .before .loop .inv) (omega arith) (omega arith) (w .same ∙ c .before .byte-at .ensures) (w .small)
 
--- src/field.rt:29:1
 returns : tie.Need-returns Inv-loop μ-loop
-returns c = ?
+returns c = search (number-none, number-next, number-all, loops)
 
 pub number-at-spec : {M : Type 1} → statement M
 number-at-spec =

@@ -1,61 +1,63 @@
+-- `archive::field::put_number` meets its contract: a byte a turn. Assumes nothing.
+use Prim.Native.Nat.{_-_}
+use native.Mathlib.Omega.{arith}
+use Rattle.prelude.proofs.LoopLaws.{loops}
+use Rattle.archive_spec.specs.File.{bytesOf}
+use Rattle.archive_spec.proofs.Fields.{bytes-long}
+use Rattle.archive_spec.proofs.Placing.{Putting, putting-none, putting-more, putting-all, byte-in}
 use Rattle.archive.proofs.field.put_number.Statement.{statement}
 use Rattle.archive.proofs.field.put_number.Tie as tie
-use Rattle.archive.proofs.field.put_number.Reads as reads
-use Rattle.archive.proofs.field.put_number.Lts as lts
 
 abbrev Inv-loop : tie.InvT-loop
-Inv-loop x to₀ j₀ j-end to j = ?
+Inv-loop x k at to₀ j₀ to j = Putting to₀ at (bytesOf k x) j to
 
 abbrev μ-loop : tie.MeasureT-loop
-μ-loop x to₀ j₀ j-end to j = ?
+μ-loop x k at to₀ j₀ to j = k - j
 
--- src/field.rt:47:5
 loop-holds : tie.Need-loop-holds Inv-loop μ-loop
-loop-holds c = ?
+loop-holds c = putting-none
 
--- src/field.rt:48:30
 sub-to : tie.Need-sub-to Inv-loop μ-loop
-sub-to c = ?
+sub-to c = search (bytes-long, loops)
 
--- src/field.rt:48:30
 sub-to-2 : tie.Need-sub-to-2 Inv-loop μ-loop
-sub-to-2 c = ?
+sub-to-2 c = search (bytes-long, loops)
 
--- src/field.rt:48:25
 mul-to : tie.Need-mul-to Inv-loop μ-loop
-mul-to c = ?
+mul-to c = search (bytes-long, loops)
 
--- src/field.rt:48:19
 shr-to : tie.Need-shr-to Inv-loop μ-loop
-shr-to c = ?
+shr-to c = search (bytes-long, loops)
 
--- src/field.rt:48:17
 cast-to : tie.Need-cast-to Inv-loop μ-loop
-cast-to c = ?
+cast-to c = search (bytes-long, loops)
 
--- src/field.rt:48:9
+add-to : tie.Need-add-to Inv-loop μ-loop
+add-to c = search (bytes-long, loops)
+
 slice-write-to : tie.Need-slice-write-to Inv-loop μ-loop
-slice-write-to c = ?
+slice-write-to c = omega (arith, c .before .loop .inv)
 
--- src/field.rt:47:9
 add-j : tie.Need-add-j Inv-loop μ-loop
-add-j c = ?
+add-j c = search (bytes-long, loops)
 
--- src/field.rt:47:5
 loop-less : tie.Need-loop-less Inv-loop μ-loop
-loop-less c = ?
+loop-less c = search (bytes-long, loops)
 
--- src/field.rt:47:5
 loop-again : tie.Need-loop-again Inv-loop μ-loop
-loop-again c = ?
+loop-again c =
+    let a = c .before .before .args in
+    let l = bytes-long (a .k) (a .x) in
+    putting-more (c .before .loop .inv) (omega arith) (omega arith) (byte-in (a .k) (a .x) (c .before .loop .j) (omega arith) (omega arith))
 
--- src/field.rt:43:1
 same-length : tie.Need-same-length Inv-loop μ-loop
-same-length c = ?
+same-length c = search (bytes-long, loops)
 
--- src/field.rt:43:1
 returns : tie.Need-returns Inv-loop μ-loop
-returns c = ?
+returns c =
+    let a = c .before .before .args in
+    let l = bytes-long (a .k) (a .x) in
+    putting-all (c .before .loop .inv) (omega arith)
 
 pub put-number-spec : {M : Type 1} → statement M
 put-number-spec =
@@ -69,6 +71,7 @@ put-number-spec =
     mul-to
     shr-to
     cast-to
+    add-to
     slice-write-to
     add-j
     loop-less

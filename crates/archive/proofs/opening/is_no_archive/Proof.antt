@@ -1,51 +1,44 @@
+-- `archive::opening::is_no_archive` meets its contract: a byte a turn. Assumes nothing.
+use Prim.Native.Nat.{_-_}
+use Rattle.prelude.proofs.LoopLaws.{PassedOver, loops}
+use Rattle.archive_spec.specs.Read.{fixedDiffers, isNoArchive}
+use Rattle.archive_spec.proofs.Judging.{byte-differs, byte-agrees, some-differs, none-differs}
 use Rattle.archive.proofs.opening.is_no_archive.Statement.{statement}
 use Rattle.archive.proofs.opening.is_no_archive.Tie as tie
-use Rattle.archive.proofs.opening.is_no_archive.Reads as reads
-use Rattle.archive.proofs.opening.is_no_archive.Lts as lts
-use Rattle.archive.proofs.field.fixed_byte.Reads as fixed-byte-reads
-use Rattle.bits.proofs.byte_at.Reads as byte-at-reads
 
 abbrev Inv-loop : tie.InvT-loop
-Inv-loop size first k₀ k = ?
+Inv-loop size first k₀ k = PassedOver k (fixedDiffers first) 16
 
 abbrev μ-loop : tie.MeasureT-loop
-μ-loop size first k₀ k = ?
+μ-loop size first k₀ k = 16 - k
 
--- src/opening.rt:73:9
 returns : tie.Need-returns Inv-loop μ-loop
-returns c = ?
+unfolding isNoArchive
+returns c = search loops
 
--- src/opening.rt:76:5
 loop-holds : tie.Need-loop-holds Inv-loop μ-loop
-loop-holds c = ?
+loop-holds c = search loops
 
--- src/opening.rt:77:12
 byte-at-requires : tie.Need-byte-at-requires Inv-loop μ-loop
-byte-at-requires c κs = ?
+byte-at-requires c κs = search loops
 
--- src/opening.rt:77:39
 fixed-byte-requires : tie.Need-fixed-byte-requires Inv-loop μ-loop
-fixed-byte-requires c κs = ?
+fixed-byte-requires c κs = search loops
 
--- src/opening.rt:78:13
 returns-2 : tie.Need-returns-2 Inv-loop μ-loop
-returns-2 c = ?
+returns-2 c = search (some-differs, byte-differs, loops)
 
--- src/opening.rt:80:9
 add-k : tie.Need-add-k Inv-loop μ-loop
-add-k c = ?
+add-k c = search loops
 
--- src/opening.rt:76:5
 loop-less : tie.Need-loop-less Inv-loop μ-loop
-loop-less c = ?
+loop-less c = search loops
 
--- src/opening.rt:76:5
 loop-again : tie.Need-loop-again Inv-loop μ-loop
-loop-again c = ?
+loop-again c = search (byte-agrees, loops)
 
--- src/opening.rt:69:1
 returns-3 : tie.Need-returns-3 Inv-loop μ-loop
-returns-3 c = ?
+returns-3 c = search (none-differs, loops)
 
 pub is-no-archive-spec : {M : Type 1} → statement M
 is-no-archive-spec =

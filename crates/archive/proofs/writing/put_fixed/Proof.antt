@@ -1,46 +1,43 @@
+-- `archive::writing::put_fixed` meets its contract: a byte a turn. Assumes nothing.
+use Prim.Native.Nat.{_-_, _≤_}
+use native.Mathlib.Omega.{arith}
+use lib.ListN.{getD}
+use Rattle.prelude.proofs.Lists.{Filled, filled-more}
+use Rattle.prelude.proofs.LoopLaws.{loops}
+use Rattle.archive_spec.specs.File.{fixedBytes, fixed}
+use Rattle.archive_spec.proofs.Placing.{fixed-placed}
 use Rattle.archive.proofs.writing.put_fixed.Statement.{statement}
 use Rattle.archive.proofs.writing.put_fixed.Tie as tie
-use Rattle.archive.proofs.writing.put_fixed.Reads as reads
-use Rattle.archive.proofs.writing.put_fixed.Lts as lts
-use Rattle.archive.proofs.field.fixed_byte.Reads as fixed-byte-reads
 
 abbrev Inv-loop : tie.InvT-loop
-Inv-loop to₀ k₀ to k = ?
+Inv-loop head₀ k₀ head k = Filled k (λ j. getD fixed j 0) head₀ head × (k ≤ fixedBytes)
 
 abbrev μ-loop : tie.MeasureT-loop
-μ-loop to₀ k₀ to k = ?
+μ-loop head₀ k₀ head k = fixedBytes - k
 
--- src/writing.rt:80:5
 loop-holds : tie.Need-loop-holds Inv-loop μ-loop
-loop-holds c = ?
+loop-holds c = search loops
 
--- src/writing.rt:81:17
 fixed-byte-requires : tie.Need-fixed-byte-requires Inv-loop μ-loop
-fixed-byte-requires c κs = ?
+fixed-byte-requires c κs = search loops
 
--- src/writing.rt:81:9
-slice-write-to : tie.Need-slice-write-to Inv-loop μ-loop
-slice-write-to c = ?
+slice-write-head : tie.Need-slice-write-head Inv-loop μ-loop
+slice-write-head c = search loops
 
--- src/writing.rt:80:9
 add-k : tie.Need-add-k Inv-loop μ-loop
-add-k c = ?
+add-k c = search loops
 
--- src/writing.rt:80:5
 loop-less : tie.Need-loop-less Inv-loop μ-loop
-loop-less c = ?
+loop-less c = search loops
 
--- src/writing.rt:80:5
 loop-again : tie.Need-loop-again Inv-loop μ-loop
-loop-again c = ?
+loop-again c = (filled-more (c .before .before .loop .inv .0) (omega arith) (c .fixed-byte .ensures), omega arith)
 
--- src/writing.rt:76:1
 same-length : tie.Need-same-length Inv-loop μ-loop
-same-length c = ?
+same-length c = search loops
 
--- src/writing.rt:76:1
 returns : tie.Need-returns Inv-loop μ-loop
-returns c = ?
+returns c = fixed-placed _ (c .before .loop .inv .0) (omega arith)
 
 pub put-fixed-spec : {M : Type 1} → statement M
 put-fixed-spec =
@@ -50,7 +47,7 @@ put-fixed-spec =
     μ-loop
     loop-holds
     fixed-byte-requires
-    slice-write-to
+    slice-write-head
     add-k
     loop-less
     loop-again
