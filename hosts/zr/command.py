@@ -5,11 +5,11 @@ import re
 import signal
 import subprocess
 import sys
-from typing import Dict, List, NamedTuple, NoReturn, Optional, Sequence
+from typing import Dict, List, NamedTuple, NoReturn, Optional, Sequence, Type, Union
 
 import files
 import program
-from files import Failed, Input, Output, shown
+from files import Failed, Input, LongInput, Output, Stretch, shown
 
 DONE, REFUSED, FAILED = 0, 1, 2
 
@@ -20,16 +20,21 @@ zr edit  N BLOCK BITS PARITY CAPTURE OUT replaces a client block and its FEC blo
 zr map   C F N GROUPS WINDOW             puts data groups into the window of N places from place F on
 zr unmap C F N WINDOW GROUPS             takes them out again
 zr runs  C                               lists the runs of data and stuff places under the count C
+zr pack  FILE KIND BODY [KIND BODY ..]   puts bodies into the archive FILE, one behind the other
+zr list  FILE                            lists an archive: entry, kind, offset, length
+zr unpack FILE ENTRY OUT                 takes one body out again
 zr help                                  this text
 zr --version                             the version
 
 N is 1 to 8 super frames and M0, where the FEC blocks count from, 0 to 63. INFO has 152915 bytes for each
 super frame, PARITY 10240, and CAPTURE 175616 and 7680 more. For an edit BLOCK is 0 to 4760 N - 1, BITS has 33 bytes
 (257 bits, seven zero bits) and PARITY 2048. C is 0 to 10220, F odd, N even. Where a file's size tells N, in code, read, edit
-and unmap, N may be the word auto.
+and unmap, N may be the word auto. An archive has 1 to 32 bodies of up to 4294967295 bytes each. KIND is information, parity or
+capture, and ENTRY is counted from 1.
 
-Files that are written stand last. One that is there already is left alone, unless --force is the first word (zr --force edit ..):
-then it is replaced whole, in one step, also where it is read by the same command. - is standard input or output.
+Files that are written stand last, but the FILE of pack first. One that is there already is left alone, unless --force is the
+first word (zr --force edit ..): then it is replaced whole, in one step, also where it is read by the same command.
+- is standard input or output.
 
 An answer goes to standard error and begins `done`, `refused` and a number of the scope's table, or `failed`; the exit
 status is then 0, 1 or 2. Only what is done writes a file.
@@ -46,7 +51,9 @@ class Auto(NamedTuple):
     words: str
 
 
-# A command's words: numbers, < what is read, > what is written.
+KINDS = ("information", "parity", "capture")
+
+# A command's words: numbers, < what is read, > what is written. Those of pack are as many as there are bodies.
 COMMANDS: Dict[str, Sequence[str]] = {
     "code": ("N", "M0", "<INFO", "<PARITY", ">CAPTURE"),
     "read": ("N", "M0", "<CAPTURE", ">INFO", ">PARITY"),
@@ -54,6 +61,8 @@ COMMANDS: Dict[str, Sequence[str]] = {
     "map": ("C", "F", "N", "<GROUPS", ">WINDOW"),
     "unmap": ("C", "F", "N", "<WINDOW", ">GROUPS"),
     "runs": ("C",),
+    "list": ("<FILE",),
+    "unpack": ("<FILE", "ENTRY", ">OUT"),
 }
 OF_CAPTURE = Auto("CAPTURE", 175616, 1, 7680, "175616 for each super frame and 7680 more")
 AUTO: Dict[str, Auto] = {
@@ -62,6 +71,20 @@ AUTO: Dict[str, Auto] = {
     "edit": OF_CAPTURE,
     "unmap": Auto("WINDOW", 257, 2, 0, "257 for each two places"),
 }
+
+
+def roles(name: str, words: int) -> Optional[Sequence[str]]:
+    """What a command's words are, or None where it does not take so many; = is a kind."""
+    if name == "pack" and words >= 3 and words % 2 == 1:
+        return [">FILE", *(role for k in range(1, words // 2 + 1) for role in (f"=KIND {k}", f"<BODY {k}"))]
+    taken = COMMANDS.get(name, ())
+    return taken if taken and len(taken) == words else None
+
+
+def kind(word: str) -> str:
+    if word not in KINDS:
+        raise Failed(f"KIND must be information, parity or capture, and is {shown(word)}")
+    return word
 
 
 def number(role: str, word: str) -> str:
@@ -82,12 +105,15 @@ def told(auto: Auto, inputs: Sequence[Input]) -> str:
 class Command:
     """A command whose words are right: its numbers, and the files that it reads and writes."""
 
-    def __init__(self, name: str, given: Sequence[str], force: bool) -> None:
-        named = list(zip(COMMANDS[name], given))
+    input = Input
+
+    def __init__(self, name: str, taken: Sequence[str], given: Sequence[str], force: bool) -> None:
+        named = list(zip(taken, given))
         self.name = name
         self.auto: Optional[Auto] = AUTO.get(name) if "auto" in (word for role, word in named if role == "N") else None
-        self.numbers = {role: "" if self.auto and role == "N" else number(role, word) for role, word in named if role[0] not in "<>"}
-        self.inputs = [Input(role[1:], word) for role, word in named if role[0] == "<"]
+        self.numbers = {role: "" if self.auto and role == "N" else number(role, word) for role, word in named if role[0] not in "<>="}
+        self.kinds = [kind(word) for role, word in named if role[0] == "="]
+        self.inputs = [self.input(role[1:], word) for role, word in named if role[0] == "<"]
         self.outputs = [Output(role[1:], word, force) for role, word in named if role[0] == ">"]
         for output in self.outputs:
             output.refuse_old(self.inputs)
@@ -102,23 +128,9 @@ class Command:
     def run(self, start: List[str]) -> int:
         """Starts the proved program on descriptors, and delivers what it wrote where it says that it is done."""
         files.begin(self.outputs)
-        handed = {**{i.descriptor: i.name for i in self.inputs}, **{o.descriptor: o.name for o in self.outputs}}
-        words = [self.name, *self.numbers.values(), *(f"/proc/self/fd/{d}" for d in handed)]
-        process = subprocess.Popen([*start, *words], stdin=subprocess.DEVNULL, stdout=subprocess.PIPE, stderr=subprocess.PIPE, pass_fds=list(handed))
-        try:
-            said, why = process.communicate()
-        except BaseException:
-            process.kill()
-            raise
-        answer = named_in(said, handed)
-        if process.returncode or not re.match(r"done|refused|failed|Cm ", answer):
-            raise Failed(f"the program zr ended by {ending(process.returncode)}; nothing was written")
-        if answer.startswith("failed"):
-            what, reason = said[len("failed: ") :].partition(b",")[0].strip(), why.decode().strip().rpartition(": ")[2]
-            raise Failed(f"{named_in(what, handed)}: {reason}; nothing was written")
+        answer = asked(start, [self.name, *self.numbers.values()], [*self.inputs, *self.outputs])
         if answer.startswith("refused"):
-            say(answer)
-            return REFUSED
+            return refused(answer)
         files.deliver(self.outputs)
         if self.name == "runs":
             say_data(answer)
@@ -129,6 +141,104 @@ class Command:
     def end(self) -> None:
         for output in self.outputs:
             output.end()
+
+
+class OnArchive(Command):
+    """A command on files that may be too long for memory. The program makes or reads the table of an archive, and bodies are copied here."""
+
+    input = LongInput
+    inputs: List[LongInput]
+
+    def open(self) -> None:
+        beside = [os.path.dirname(output.name) or "." for output in self.outputs if not output.poured]
+        for each in self.inputs:
+            each.folders[:0] = beside
+        super().open()
+        files.refuse_circles(self.inputs, self.outputs)
+
+
+class Pack(OnArchive):
+    def run(self, start: List[str]) -> int:
+        files.begin(self.outputs)
+        [output] = self.outputs
+        entries = [word for body, k in zip(self.inputs, self.kinds) for word in (k, str(body.length))]
+        answer = asked(start, ["pack"], [output], entries)
+        if answer.startswith("refused"):
+            return refused(answer)
+        output.behind = [Stretch(body, 0, body.length) for body in self.inputs]
+        size = os.fstat(output.descriptor).st_size + sum(body.length for body in self.inputs)
+        files.deliver(self.outputs)
+        say(f"done: {len(self.inputs)} {'entry' if len(self.inputs) == 1 else 'entries'}, {size} bytes\n")
+        return DONE
+
+
+class Listing(OnArchive):
+    """What is no plain file is passed on to the program, which keeps the table alone."""
+
+    def open(self) -> None:
+        self.inputs[0].open_source()
+
+    def run(self, start: List[str]) -> int:
+        [file] = self.inputs
+        answer = asked(start, ["list", "-"], [], fed=file) if file.is_stream() else asked(start, ["list"], [file])
+        if answer.startswith("refused"):
+            return refused(answer)
+        say_data(answer)
+        return DONE
+
+
+class Unpack(OnArchive):
+    def run(self, start: List[str]) -> int:
+        [file], [output] = self.inputs, self.outputs
+        answer = asked(start, ["list"], [file])
+        if answer.startswith("refused"):
+            return refused(answer)
+        rows = {row[0]: row for row in (line.split() for line in answer.splitlines())}
+        entry = self.numbers["ENTRY"]
+        if entry not in rows:
+            raise Failed(f"{shown(file.name)} has no entry {entry}: its entries are 1 to {len(rows)}")
+        _, what, offset, length = rows[entry]
+        files.begin(self.outputs)
+        output.behind = [Stretch(file, int(offset), int(length))]
+        files.deliver(self.outputs)
+        say(f"done: {what}, {length} {'byte' if length == '1' else 'bytes'}\n")
+        return DONE
+
+
+ON_ARCHIVES: Dict[str, Type[Command]] = {"pack": Pack, "list": Listing, "unpack": Unpack}
+
+
+def asked(start: List[str], words: List[str], handed: Sequence[Union[Input, Output]], more: Sequence[str] = (), fed: Optional[Input] = None) -> str:
+    """What the proved program answers to some words, the files that it is handed and further words; it may be fed the bytes of a stream."""
+    names = {each.descriptor: each.name for each in handed}
+    line = [*start, *words, *(f"/proc/self/fd/{d}" for d in names), *more]
+    process = subprocess.Popen(line, stdin=subprocess.PIPE if fed else subprocess.DEVNULL, stdout=subprocess.PIPE, stderr=subprocess.PIPE, pass_fds=list(names))
+    try:
+        if fed and process.stdin:
+            feed(fed, process.stdin.fileno())
+        said, why = process.communicate()
+    except BaseException:
+        process.kill()
+        raise
+    answer = named_in(said, names)
+    if process.returncode or not re.match(r"done|refused|failed|Cm |1 ", answer):
+        raise Failed(f"the program zr ended by {ending(process.returncode)}; nothing was written")
+    if answer.startswith("failed"):
+        what, reason = said[len("failed: ") :].partition(b",")[0].strip(), why.decode().strip().rpartition(": ")[2]
+        raise Failed(f"{named_in(what, names)}: {reason}; nothing was written")
+    return answer
+
+
+def feed(stream: Input, to: int) -> None:
+    try:
+        stream.pass_on(stream.descriptor, to)
+    except BrokenPipeError:
+        pass  # the program has ended: how, is told where its answer is looked at
+
+
+def refused(answer: str) -> int:
+    say(answer)
+    return REFUSED
 
 
 def named_in(said: bytes, handed: Dict[int, str]) -> str:
@@ -168,9 +278,10 @@ def done(words: Sequence[str]) -> int:
     if rest == ["--version"]:
         say_data(f"zr {program.version()}\n")
         return DONE
-    if not rest or len(rest) - 1 != len(COMMANDS.get(rest[0], rest)):
+    taken = roles(rest[0], len(rest) - 1) if rest else None
+    if taken is None:
         raise Failed(f"no such command, or not the arguments that it takes; this is what zr takes:\n{HELP.rstrip()}")
-    command = Command(rest[0], rest[1:], force)
+    command = ON_ARCHIVES.get(rest[0], Command)(rest[0], taken, rest[1:], force)
     try:
         command.open()
         return command.run(program.words())

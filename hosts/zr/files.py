@@ -8,10 +8,16 @@ import secrets
 import select
 import signal
 import stat
-from typing import Iterable, List, Optional, Sequence, Set, Tuple
+from typing import Iterable, List, NamedTuple, Optional, Sequence, Set, Tuple
 
 LONGEST = 1412608
 """The bytes of a capture of eight super frames. No other buffer is longer."""
+LONGEST_BODY = (1 << 32) - 1
+"""What an archive can say of a body. More of a pipe is not kept: a byte more shows that it is too long."""
+LONGEST_ARCHIVE = 1 << 38
+"""More than 32 such bodies and the table have."""
+PART = 1 << 20
+"""So many bytes of what may be too long for memory are held at a time."""
 
 STANDARD = re.compile(r"-|/dev/std(in|out|err)|/(?:dev|proc/self)/fd/([0-9]{1,9})")
 NULL_DEVICE = os.makedev(1, 3)
@@ -83,26 +89,31 @@ def write_all(to: int, data: bytes) -> None:
             select.select([], [to], [])
 
 
-def copied(source: int, name: str) -> int:
-    """What a pipe or a device gives, kept in memory: no more than shows that it is too long."""
-    kept, size = os.memfd_create("zr"), 0
-    while size <= LONGEST:
+def unnamed(folders: Sequence[str]) -> int:
+    """A file on the disk that has no name, so that nothing is left of it, in the first of some folders that can have one."""
+    for folder in folders:
         try:
-            part = read_part(source, min(1 << 16, LONGEST + 1 - size))
-        except OSError as error:
-            raise failed(name, "cannot be read", error)
-        if not part:
-            break
-        size += len(part)
+            return os.open(folder, os.O_TMPFILE | os.O_RDWR, 0o600)
+        except OSError:
+            pass  # not every disk has such files
+        before = signal.pthread_sigmask(signal.SIG_BLOCK, ENDINGS)
         try:
-            write_all(kept, part)
+            name = os.path.join(folder, f".zr-{os.getpid()}-{secrets.token_hex(4)}")
+            descriptor = os.open(name, os.O_RDWR | os.O_CREAT | os.O_EXCL, 0o600)
+            os.unlink(name)
+            return descriptor
         except OSError as error:
-            raise failed(name, "cannot be kept in memory", error)
-    return kept
+            last = error
+        finally:
+            signal.pthread_sigmask(signal.SIG_SETMASK, before)
+    raise last
 
 
 class Input:
     """A file that is read. What is no plain file, or is open already, is copied first."""
+
+    most = LONGEST
+    where = "in memory"
 
     def __init__(self, role: str, name: str) -> None:
         self.role, self.name = role, name
@@ -110,23 +121,105 @@ class Input:
         self.copied = False
         self.descriptor = -1
 
-    def open(self) -> None:
+    def open_source(self) -> None:
         try:
             self.descriptor = os.open(self.name, os.O_RDONLY) if self.source is None else os.dup(self.source)
         except OSError as error:
             raise failed(self.name, "cannot be opened", error)
-        kind = os.fstat(self.descriptor).st_mode
-        if stat.S_ISDIR(kind):
+        if stat.S_ISDIR(os.fstat(self.descriptor).st_mode):
             raise Failed(f"{shown(self.name)} cannot be read: it is a folder")
-        if self.source is not None or not stat.S_ISREG(kind):
-            source, self.descriptor, self.copied = self.descriptor, copied(self.descriptor, self.name), True
+
+    def open(self) -> None:
+        self.open_source()
+        if self.is_stream():
+            source = self.descriptor
+            try:
+                self.descriptor, self.copied = self.space(), True
+                self.pass_on(source, self.descriptor)
+            except OSError as error:
+                raise failed(self.name, f"cannot be kept {self.where}", error)
             os.close(source)
+
+    def is_stream(self) -> bool:
+        """Whether it is copied, since it gives its bytes once or may have given some already."""
+        return self.source is not None or not stat.S_ISREG(os.fstat(self.descriptor).st_mode)
+
+    def space(self) -> int:
+        return os.memfd_create("zr")
+
+    def pass_on(self, source: int, to: int) -> None:
+        """What a pipe or a device gives: no more than shows that it is too long."""
+        size = 0
+        while size <= self.most:
+            try:
+                part = read_part(source, min(PART, self.most + 1 - size))
+            except OSError as error:
+                raise failed(self.name, "cannot be read", error)
+            if not part:
+                break
+            size += len(part)
+            write_all(to, part)
 
     @property
     def size(self) -> Optional[int]:
         """None where a copy shows only that it is longer than any buffer."""
         size = os.fstat(self.descriptor).st_size
         return None if self.copied and size > LONGEST else size
+
+
+class LongInput(Input):
+    """An archive or a body of one, which may be too long for memory. A plain file is read where it stands, and what a pipe or a device gives is kept on the disk."""
+
+    where = "on the disk"
+
+    def __init__(self, role: str, name: str) -> None:
+        super().__init__(role, name)
+        self.most = LONGEST_BODY if role.startswith("BODY") else LONGEST_ARCHIVE
+        self.length = 0
+        self.folders: List[str] = [folder for folder in (os.environ.get("TMPDIR"), "/var/tmp", "/tmp") if folder]
+
+    def open(self) -> None:
+        super().open()
+        self.length = os.fstat(self.descriptor).st_size
+        if self.source is not None and not self.copied:
+            os.lseek(self.source, 0, os.SEEK_END)  # as if it had been read from there
+
+    def is_stream(self) -> bool:
+        if not stat.S_ISREG(os.fstat(self.descriptor).st_mode):
+            return True
+        return self.source is not None and os.lseek(self.descriptor, 0, os.SEEK_CUR) != 0
+
+    def space(self) -> int:
+        return unnamed(self.folders)
+
+
+class Stretch(NamedTuple):
+    """The bytes of an input that are copied behind what the program wrote."""
+
+    source: LongInput
+    first: int
+    length: int
+
+    def copy(self, to: int) -> None:
+        """In parts. What changes its size meanwhile is not what the table says, and nothing is made of it."""
+        source, at, end = self.source, self.first, self.first + self.length
+        while at < end:
+            part = self.read(at, min(PART, end - at))
+            if not part:
+                break
+            write_all(to, part)
+            at += len(part)
+        now = os.fstat(source.descriptor).st_size
+        if at < end or now < source.length:
+            raise Failed(f"{shown(source.name)} was cut off while it was copied: it had {source.length} bytes")
+        if now > source.length or self.read(now, 1):
+            raise Failed(f"{shown(source.name)} grew while it was copied: it had {source.length} bytes")
+
+    def read(self, at: int, length: int) -> bytes:
+        try:
+            return os.pread(self.source.descriptor, length, at)
+        except OSError as error:
+            raise failed(self.source.name, "cannot be read", error)
 
 
 class Output:
@@ -137,6 +230,7 @@ class Output:
         self.descriptor = self.folder = -1
         self.part = self.kept = ""
         self.placed = False
+        self.behind: List[Stretch] = []
         self.stream = standard_of(name, 1)
         self.base = os.path.basename(name)
         if self.stream == 2:
@@ -211,6 +305,8 @@ class Output:
         if self.poured:
             return
         try:
+            os.lseek(self.descriptor, 0, os.SEEK_END)
+            self.copy_behind(self.descriptor)
             if self.old is not None and stat.S_ISREG(self.old.st_mode):
                 if (self.old.st_uid, self.old.st_gid) != (os.geteuid(), os.getegid()):
                     try:
@@ -226,11 +322,16 @@ class Output:
         except OSError as error:
             raise failed(self.name, "cannot be written", error)
 
+    def copy_behind(self, to: int) -> None:
+        for stretch in self.behind:
+            stretch.copy(to)
+
     def pour(self) -> None:
         """Writes a stream."""
         try:
             to = os.open(self.name, os.O_WRONLY) if self.stream is None else self.stream
             write_all(to, os.pread(self.descriptor, os.fstat(self.descriptor).st_size, 0))
+            self.copy_behind(to)
             if self.stream is None:
                 os.close(to)
         except OSError as error:
@@ -335,6 +436,14 @@ def refuse_shared(inputs: Sequence[Input], outputs: Sequence[Output]) -> None:
         for other in outputs[:k]:
             if one.is_one_with(other):
                 raise one_for_two(other, one)
+
+
+def refuse_circles(inputs: Sequence[Input], outputs: Sequence[Output]) -> None:
+    """An archive may not be one of its own bodies: what is poured into a file while it is read never ends."""
+    for output in outputs:
+        for i in inputs:
+            if output.stream is not None and os.path.sameopenfile(i.descriptor, output.stream) and stat.S_ISREG(os.fstat(i.descriptor).st_mode):
+                raise Failed(f"{output.role} and {i.role} are one file, {shown(i.name)}, which would be read while it is written")
 
 
 def one_for_two(first: Output, second: Output) -> Failed:

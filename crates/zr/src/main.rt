@@ -11,6 +11,8 @@ enum Command {
     Edit,
     Convert(bool),
     Runs,
+    Pack,
+    List,
     Unknown,
 }
 
@@ -34,6 +36,12 @@ fn command_of(word: &[u8], arguments: usize) -> Command {
     if check::same(word, b"runs") && arguments == 3 {
         return Command::Runs;
     }
+    if check::same(word, b"pack") && 5 <= arguments && arguments % 2 == 1 {
+        return Command::Pack;
+    }
+    if check::same(word, b"list") && arguments == 3 {
+        return Command::List;
+    }
     Command::Unknown
 }
 
@@ -47,6 +55,8 @@ fn main() {
         Command::Edit => captures::edit(),
         Command::Convert(unmapping) => places::convert(unmapping),
         Command::Runs => places::runs(),
+        Command::Pack => zr_archive::pack(),
+        Command::List => zr_archive::list(),
         Command::Unknown => said::unknown(),
     }
 }

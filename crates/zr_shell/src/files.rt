@@ -22,6 +22,7 @@ pub fn number_at(i: usize, name: &[u8]) -> Number {
     read
 }
 
+// Standard error has the system's reason.
 fn failed(path: &[u8], why: &[u8]) {
     os::fail(path);
     said::failed(path, why);
@@ -36,12 +37,20 @@ pub fn load(i: usize, into: &mut [u8]) -> Loaded
     load_from(&path[..k], into)
 }
 
-fn load_from(path: &[u8], into: &mut [u8]) -> Loaded
-    ensures { λ r. ⌜ r .bytes ≤ length (now (into .exit)) ⌝ }
-{
+// Opens a file for reading, or says that it cannot be opened and answers a number below 0.
+pub fn open(path: &[u8]) -> i32 {
     let fd = os::open_read(path);
     if fd < 0 {
         failed(path, b" cannot be opened\n");
+    }
+    fd
+}
+
+fn load_from(path: &[u8], into: &mut [u8]) -> Loaded
+    ensures { λ r. ⌜ r .bytes ≤ length (now (into .exit)) ⌝ }
+{
+    let fd = open(path);
+    if fd < 0 {
         return Loaded {
             fine: false,
             bytes: 0,
@@ -49,10 +58,14 @@ fn load_from(path: &[u8], into: &mut [u8]) -> Loaded
     }
     let loaded = read_all(fd, into);
     if !loaded.fine {
-        failed(path, b" cannot be read\n");
+        unread(path);
     }
     libc::close(fd);
     loaded
+}
+
+pub fn unread(path: &[u8]) {
+    failed(path, b" cannot be read\n");
 }
 
 // A read that moves nothing ends the file, or fails.

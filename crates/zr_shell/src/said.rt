@@ -30,7 +30,7 @@ pub fn refused(answer: Answer) {
     let number = answer.number;
     say(b"refused ");
     say_number(number);
-    if answer::BEYOND_REPAIR <= number {
+    if answer::BEYOND_REPAIR <= number && number != answer::NOT_ARCHIVE {
         place(number, answer.place);
     }
     say(b": ");
@@ -38,19 +38,24 @@ pub fn refused(answer: Answer) {
     say(b"\n");
 }
 
-// Document 01, "Numbers handed back": what the place of a number counts.
+// Document 01, "Numbers handed back", and document 02, M-100: what the place of a number counts. A bad count of entries has no place.
 fn place(number: u64, at: u64) {
+    if number == answer::BAD_ENTRY && at == 0 {
+        return;
+    }
     if number == answer::WRONG_MBAS || number == answer::WRONG_CRC {
         say(b" at FEC block ");
     } else if number == answer::PAD_NOT_ZERO {
         say(b" at super frame ");
+    } else if answer::BAD_ENTRY <= number {
+        say(b" at entry ");
     } else {
         say(b" at word ");
     }
     say_number(at);
 }
 
-// Document 01, "Numbers handed back": when a number is given.
+// Document 01, "Numbers handed back", and document 02, M-100: when a number is given.
 fn meaning(number: u64) {
     match number {
         1 => say(b"a number is outside its stated set"),
@@ -62,6 +67,9 @@ fn meaning(number: u64) {
         7 => say(b"CRC wrong"),
         8 => say(b"pad not zero"),
         9 => say(b"a word to be listed fails a check"),
+        10 => say(b"fewer than 16 bytes, or the first bytes differ"),
+        11 => say(b"count missing or outside 1..32, or a kind outside 1..3 in a whole entry"),
+        12 => say(b"an entry cut off, or an offset or the end not where the rule puts it"),
         _ => say(b"a number that zr does not know"),
     }
 }

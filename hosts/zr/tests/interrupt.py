@@ -12,6 +12,7 @@ import sys
 import time
 
 WHOLE = 183296
+LARGE = 1 << 31
 
 
 SIGNALS = (signal.SIGINT, signal.SIGTERM, signal.SIGHUP, signal.SIGQUIT)
@@ -32,13 +33,13 @@ def expect(fact, told):
         sys.exit(f"what was seen: {told}")
 
 
-def ended(process, *numbers):
+def ended(process, *numbers, whole=WHOLE):
     """It ended by one of the signals, with nothing to say; or was done."""
     said = process.communicate(timeout=60)[1]
     expect(process.returncode in [-number for number in numbers] and not said or process.returncode == 0 and said.startswith(b"done"), (numbers, process.returncode, said))
     expect([name for name in os.listdir() if name.startswith(".zr-")] == [], os.listdir())
     if os.path.exists("new"):
-        expect(process.returncode == 0 and os.path.getsize("new") == WHOLE, (process.returncode, os.path.getsize("new")))
+        expect(process.returncode == 0 and os.path.getsize("new") == whole, (process.returncode, os.path.getsize("new")))
         os.remove("new")
 
 
@@ -60,5 +61,34 @@ def main(zr):
         ended(process, signal.SIGHUP, signal.SIGTERM, signal.SIGINT)
 
 
+def copying():
+    try:
+        return any(name.startswith(".zr-") and os.path.getsize(name) > 1 << 20 for name in os.listdir())
+    except FileNotFoundError:
+        return False  # it has just got its name
+
+
+def pack(zr):
+    """While it keeps what a pipe gives, while it copies a large body, and while it writes into a pipe."""
+    process = started(zr, "pack", "new", "information", "pipe")
+    with open("pipe", "wb") as pipe:
+        pipe.write(bytes(1 << 20))
+        process.send_signal(signal.SIGINT)
+        ended(process, signal.SIGINT)
+    with open("large", "wb") as large:
+        large.truncate(LARGE)
+    process = started(zr, "pack", "new", "information", "large")
+    while process.poll() is None and not copying():
+        time.sleep(0.001)
+    process.send_signal(signal.SIGTERM)
+    ended(process, signal.SIGTERM, whole=LARGE + 27)
+    os.remove("large")
+    process = started(zr, "pack", "pipe", "information", "info")
+    with open("pipe", "rb"):
+        process.send_signal(signal.SIGINT)
+        ended(process, signal.SIGINT)
+
+
 if __name__ == "__main__":
     main(sys.argv[1])
+    pack(sys.argv[1])

@@ -1,4 +1,4 @@
-"""Outputs when the disk does not do as asked: what hosts/check-zr cannot bring about from outside.
+"""Files when the disk does not do as asked, or change while they are copied: what hosts/check-zr cannot bring about from outside.
 
     python3 -m unittest discover -s hosts/zr/tests
 """
@@ -15,7 +15,7 @@ from unittest import mock
 sys.path.insert(0, os.path.dirname(os.path.dirname(os.path.abspath(__file__))))
 
 import files  # noqa: E402
-from files import Failed, Output  # noqa: E402
+from files import Failed, LongInput, Output, Stretch  # noqa: E402
 
 
 def refusing(function, call):
@@ -31,20 +31,13 @@ def refusing(function, call):
     return refuse
 
 
-class Outputs(unittest.TestCase):
+class InRoom(unittest.TestCase):
     def setUp(self):
         before = signal.pthread_sigmask(signal.SIG_BLOCK, [])
         self.addCleanup(signal.pthread_sigmask, signal.SIG_SETMASK, before)  # what delivers outputs is soon at its end, and holds signals back
         self.room = tempfile.TemporaryDirectory()
         self.addCleanup(self.room.cleanup)
         self.first, self.second = (os.path.join(self.room.name, name) for name in ("first", "second"))
-
-    def begun(self, force):
-        outputs = [Output("FIRST", self.first, force), Output("SECOND", self.second, force)]
-        files.begin(outputs)
-        for output in outputs:
-            os.write(output.descriptor, b"new")
-        return outputs
 
     def deliver(self, outputs):
         try:
@@ -59,6 +52,15 @@ class Outputs(unittest.TestCase):
             with open(os.path.join(self.room.name, name), "rb") as file:
                 there[name] = file.read()
         self.assertEqual(there, expected)
+
+
+class Outputs(InRoom):
+    def begun(self, force):
+        outputs = [Output("FIRST", self.first, force), Output("SECOND", self.second, force)]
+        files.begin(outputs)
+        for output in outputs:
+            os.write(output.descriptor, b"new")
+        return outputs
 
     def old(self):
         for path in (self.first, self.second):
@@ -134,6 +136,134 @@ class Outputs(unittest.TestCase):
         with mock.patch("os.link", link):
             self.deliver(outputs)
         self.holds({"first": b"new", "second": b"new"})
+
+
+class Bodies(InRoom):
+    """A body of six bytes is copied behind a head of four, two bytes at a time."""
+
+    def setUp(self):
+        super().setUp()
+        self.write(b"inside")
+
+    def write(self, data):
+        with open(self.first, "wb") as file:
+            file.write(data)
+
+    def copy(self, meanwhile=None, call=2, first=0, length=6):
+        """Something happens to the body just before one of the reads."""
+        body, output, reads = LongInput("BODY 1", self.first), Output("FILE", self.second, False), []
+
+        def pread(descriptor, wanted, at, real=os.pread):
+            reads.append(wanted)
+            if len(reads) == call and meanwhile:
+                meanwhile()
+            return real(descriptor, wanted, at)
+
+        body.open()
+        files.begin([output])
+        os.write(output.descriptor, b"head")
+        output.behind = [Stretch(body, first, length)]
+        with mock.patch("files.PART", 2), mock.patch("os.pread", pread):
+            self.deliver([output])
+        self.assertLessEqual(max(reads), 2)
+
+    def test_in_parts(self):
+        self.copy()
+        self.holds({"first": b"inside", "second": b"headinside"})
+
+    def test_a_part_of_a_file(self):
+        self.copy(first=2, length=3)
+        self.holds({"first": b"inside", "second": b"headsid"})
+
+    def test_an_empty_body(self):
+        self.write(b"")
+        self.copy(length=0)
+        self.holds({"first": b"", "second": b"head"})
+
+    def test_cut_off(self):
+        with self.assertRaisesRegex(Failed, "first was cut off while it was copied: it had 6 bytes$"):
+            self.copy(lambda: os.truncate(self.first, 3))
+        self.holds({"first": b"ins"})
+
+    def test_cut_off_behind_what_is_copied(self):
+        with self.assertRaisesRegex(Failed, "first was cut off while it was copied"):
+            self.copy(lambda: os.truncate(self.first, 5), call=1, length=2)
+        self.holds({"first": b"insid"})
+
+    def test_cut_off_and_made_anew(self):
+        """Its size is the same again when it is looked at."""
+        def once_more(*_):
+            self.write(b"aslong")
+            return b""
+
+        with mock.patch("files.Stretch.read", once_more), self.assertRaisesRegex(Failed, "first was cut off while it was copied"):
+            body, output = LongInput("BODY 1", self.first), Output("FILE", self.second, False)
+            body.open()
+            files.begin([output])
+            output.behind = [Stretch(body, 0, 6)]
+            self.deliver([output])
+        self.holds({"first": b"aslong"})
+
+    def test_grown(self):
+        with self.assertRaisesRegex(Failed, "first grew while it was copied: it had 6 bytes$"):
+            self.copy(lambda: self.write(b"insides"))
+        self.holds({"first": b"insides"})
+
+    def test_more_than_is_said(self):
+        """A file of the system that says it has no bytes, and has some."""
+        self.first = "/proc/self/status"
+        with self.assertRaisesRegex(Failed, "/proc/self/status grew while it was copied: it had 0 bytes"):
+            self.copy(length=0)
+        self.holds({"first": b"inside"})
+
+    def test_a_body_that_cannot_be_read(self):
+        with mock.patch("os.pread", refusing(os.pread, 1)), self.assertRaisesRegex(Failed, "first cannot be read: Input/output error"):
+            self.copy()
+        self.holds({"first": b"inside"})
+
+    def test_an_archive_that_cannot_be_written(self):
+        with mock.patch("files.write_all", refusing(files.write_all, 2)), self.assertRaisesRegex(Failed, "second cannot be written: Input/output error"):
+            self.copy()
+        self.holds({"first": b"inside"})
+
+
+class Kept(InRoom):
+    """What a pipe gives is kept on the disk, in a file without a name."""
+
+    def piped(self, data, most):
+        source, to = os.pipe()
+        os.write(to, data)
+        os.close(to)
+        piped = LongInput("BODY 1", f"/dev/fd/{source}")
+        piped.most, piped.folders = most, [self.room.name]
+        piped.open()
+        os.close(source)
+        return os.pread(piped.descriptor, 100, 0), piped.length
+
+    def test_on_the_disk(self):
+        self.assertEqual(self.piped(b"inside", 6), (b"inside", 6))
+        self.holds({})
+
+    def test_no_more_than_shows_that_it_is_too_long(self):
+        self.assertEqual(self.piped(b"insides..", 6), (b"insides", 7))
+
+    def test_a_disk_without_such_files(self):
+        def without(name, flags, *more, real=os.open, **named):
+            if flags & os.O_TMPFILE == os.O_TMPFILE:
+                raise OSError(errno.EOPNOTSUPP, os.strerror(errno.EOPNOTSUPP))
+            return real(name, flags, *more, **named)
+
+        with mock.patch("os.open", without):
+            self.assertEqual(self.piped(b"inside", 6), (b"inside", 6))
+        self.holds({})
+
+    def test_another_folder(self):
+        os.close(files.unnamed([self.first, self.room.name]))
+        self.holds({})
+
+    def test_no_folder(self):
+        with self.assertRaises(FileNotFoundError):
+            files.unnamed([self.first, self.second])
 
 
 class Streams(unittest.TestCase):
