@@ -4,39 +4,30 @@ ghost use Prim.Native.Nat.{_≤_};
 use crate::cases;
 use crate::files;
 
-// The file is a head of n entries, whose length f is w; byte p is x, and byte q is y (999 is none). It is handed in with so many bytes, 1 being right,
-// and lists of k, o and l numbers.
-struct Reading {
-    n: u64,
-    f: u64,
-    w: u64,
-    size: u64,
-    p: u64,
-    x: u64,
-    q: u64,
-    y: u64,
-    a: u64,
-    k: u64,
-    o: u64,
-    l: u64,
-}
+// A case: a head of so many entries, one length of which is replaced; the file's size; two bytes that are set, with their values (999 is none); with how many
+// bytes it is handed in, 1 being right, and how many numbers the lists have.
+type Reading = [u64; 12];
+
+const ENTRIES: usize = 0;
+
+const LENGTH: usize = 1;
+
+const SIZE: usize = 3;
+
+const BYTE: usize = 4;
+
+const FIRST: usize = 8;
+
+const KINDS: usize = 9;
+
+const OFFSETS: usize = 10;
+
+const LENGTHS: usize = 11;
 
 // A file as it was written, with one length replaced.
 fn with_length(n: u64, f: u64, w: u64) -> Reading {
-    Reading {
-        n,
-        f,
-        w,
-        size: files::offset(n, f, w, n),
-        p: 999,
-        x: 0,
-        q: 999,
-        y: 0,
-        a: 1,
-        k: 32,
-        o: 32,
-        l: 32,
-    }
+    let size = files::offset(n, f, w, n);
+    [n, f, w, size, 999, 0, 999, 0, 1, 32, 32, 32]
 }
 
 fn right(n: u64) -> Reading {
@@ -45,27 +36,9 @@ fn right(n: u64) -> Reading {
 
 fn changed(n: u64, p: u64, x: u64) -> Reading {
     let mut c = right(n);
-    c.p = p;
-    c.x = x;
+    c[BYTE] = p;
+    c[BYTE + 1] = x;
     c
-}
-
-fn name(c: Reading) {
-    test_print::number(b"read ", c.n);
-    test_print::number(b" length ", c.f);
-    test_print::number(b" ", c.w);
-    test_print::number(b" size ", c.size);
-    test_print::number(b" set ", c.p);
-    test_print::number(b" ", c.x);
-    test_print::number(b" ", c.q);
-    test_print::number(b" ", c.y);
-}
-
-fn name_lengths(c: Reading) {
-    test_print::number(b" 999 0 first ", c.a);
-    test_print::number(b" lists ", c.k);
-    test_print::number(b" ", c.o);
-    test_print::number(b" ", c.l);
 }
 
 // So many first bytes are handed in.
@@ -138,14 +111,16 @@ fn call_with(size: u64, first: &[u8], k: u64, o: u64, l: u64) {
 }
 
 fn run(c: Reading) {
-    name(c);
-    name_lengths(c);
+    test_print::form(
+        b"read # length # # size # set # # # # 999 0 first # lists # # #",
+        &c,
+    );
     let mut bytes = [0u8; files::SPACE];
-    files::set_head(&mut bytes, c.n, c.f, c.w);
-    files::set(&mut bytes, c.p, c.x);
-    files::set(&mut bytes, c.q, c.y);
-    let long = first_bytes(c.size, c.a);
-    call_with(c.size, &bytes[0..long], c.k, c.o, c.l);
+    files::set_head(&mut bytes, c[ENTRIES], c[LENGTH], c[LENGTH + 1]);
+    files::set(&mut bytes, c[BYTE], c[BYTE + 1]);
+    files::set(&mut bytes, c[6], c[7]);
+    let long = first_bytes(c[SIZE], c[FIRST]);
+    call_with(c[SIZE], &bytes[0..long], c[KINDS], c[OFFSETS], c[LENGTHS]);
 }
 
 fn sizes(k: usize) -> Reading {
@@ -153,17 +128,11 @@ fn sizes(k: usize) -> Reading {
     let size = t[k % 19];
     let mut c = right(cases::some((k / 19) as u64));
     if size < 2 || 4 < size {
-        c.size = size;
+        c[SIZE] = size;
     } else {
-        c.size = std::num::wrapping_sub_u64(std::num::wrapping_add_u64(c.size, size), 3);
+        c[SIZE] = std::num::wrapping_sub_u64(std::num::wrapping_add_u64(c[SIZE], size), 3);
     }
     c
-}
-
-fn count_bytes(k: usize) -> Reading {
-    let t = cases::COUNT_BYTES;
-    let i = 2 * (k % 7);
-    changed(2, t[i], t[i + 1])
 }
 
 // Every entry of 1, of 2 and of 32, one behind the other: how many there are, and which it is.
@@ -194,7 +163,7 @@ fn fields(k: u64) -> Reading {
 
 fn cut_off(size: u64) -> Reading {
     let mut c = right(32);
-    c.size = size;
+    c[SIZE] = size;
     c
 }
 
@@ -202,19 +171,28 @@ fn cut_off(size: u64) -> Reading {
 fn cut_off_kind(size: u64) -> Reading {
     let mut c = cut_off(size);
     if size < 306 {
-        c.p = size - size % 9;
+        c[BYTE] = size - size % 9;
     }
     c
 }
 
-fn several(k: usize) -> Reading {
-    let t = cases::SEVERAL_READS;
-    let i = 5 * (k % 16);
-    let mut c = changed(3, t[i + 1], t[i + 2]);
-    c.size = t[i];
-    c.q = t[i + 3];
-    c.y = t[i + 4];
-    c
+fn chosen(k: usize) -> Reading {
+    let t = cases::READS;
+    let i = 12 * (k % 28);
+    [
+        t[i],
+        t[i + 1],
+        t[i + 2],
+        t[i + 3],
+        t[i + 4],
+        t[i + 5],
+        t[i + 6],
+        t[i + 7],
+        t[i + 8],
+        t[i + 9],
+        t[i + 10],
+        t[i + 11],
+    ]
 }
 
 // The end of the last body, and sizes around and far from it.
@@ -239,78 +217,52 @@ fn large(k: usize) -> Reading {
     let t = cases::LARGE;
     let i = 2 * (k / 8 % 5);
     let mut c = with_length(t[i], t[i + 1], 4294967295);
-    c.size = far(c.size, k % 8);
+    c[SIZE] = far(c[SIZE], k % 8);
     c
 }
 
 fn lengths(k: u64) -> Reading {
     let mut c = right(2);
-    c.a = k / 27;
-    c.k = 31 + k / 9 % 3;
-    c.o = 31 + k / 3 % 3;
-    c.l = 31 + k % 3;
-    c
-}
-
-// Number 2 where 10 would apply too.
-fn short(k: u64) -> Reading {
-    let mut c = right(2);
-    c.size = 10;
-    if k < 2 {
-        c.a = 2 * k;
-    }
-    if k == 2 {
-        c.k = 0;
-    }
-    if k == 3 {
-        c.o = 0;
-    }
-    if k == 4 {
-        c.l = 0;
-    }
+    c[FIRST] = k / 27;
+    c[KINDS] = 31 + k / 9 % 3;
+    c[OFFSETS] = 31 + k / 3 % 3;
+    c[LENGTHS] = 31 + k % 3;
     c
 }
 
 fn case(k: u64) -> Reading {
-    if k < 34 {
-        return right(k);
+    if k < 28 {
+        return chosen(k as usize);
     }
-    if k < 91 {
-        return sizes((k - 34) as usize);
+    if k < 62 {
+        return right(k - 28);
     }
-    if k < 107 {
-        return changed(2, k - 91, 0);
+    if k < 119 {
+        return sizes((k - 62) as usize);
     }
-    if k < 114 {
-        return count_bytes((k - 107) as usize);
+    if k < 135 {
+        return changed(2, k - 119, 0);
     }
-    if k < 219 {
-        return kinds(k - 114);
+    if k < 240 {
+        return kinds(k - 135);
     }
-    if k < 499 {
-        return fields(k - 219);
+    if k < 520 {
+        return fields(k - 240);
     }
-    if k < 790 {
-        return cut_off(k - 483);
+    if k < 811 {
+        return cut_off(k - 504);
     }
-    if k < 1079 {
-        return cut_off_kind(k - 772);
-    }
-    late_case(k)
+    late_case(k - 811)
 }
 
 fn late_case(k: u64) -> Reading {
-    let m = k % 10000;
-    if m < 1095 {
-        return several((m % 1079) as usize);
+    if k < 289 {
+        return cut_off_kind(k + 18);
     }
-    if m < 1135 {
-        return large((m - 1095) as usize);
+    if k < 329 {
+        return large((k - 289) as usize);
     }
-    if m < 1216 {
-        return lengths(m - 1135);
-    }
-    short(m - 1216)
+    lengths(k - 329)
 }
 
 pub fn all() {

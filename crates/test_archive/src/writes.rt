@@ -2,30 +2,22 @@
 use crate::cases;
 use crate::files;
 
-// The count, how many kinds, lengths and bytes of the head there are, and which kind and which length is replaced by what; 99 is none.
-struct Writing {
-    n: u64,
-    kinds: u64,
-    lengths: u64,
-    head: u64,
-    e: u64,
-    v: u64,
-    f: u64,
-    w: u64,
-}
+// A case: the count, how many kinds, lengths and bytes of the head there are, and which kind and which length is replaced by what; 99 is none.
+type Writing = [u64; 8];
+
+const KINDS: usize = 1;
+
+const LENGTHS: usize = 2;
+
+const HEAD: usize = 3;
+
+const KIND: usize = 4;
+
+const LENGTH: usize = 6;
 
 fn right(n: u64) -> Writing {
     let m = n % 100;
-    Writing {
-        n,
-        kinds: m,
-        lengths: m,
-        head: 18 + 9 * m,
-        e: 99,
-        v: 0,
-        f: 99,
-        w: 0,
-    }
+    [n, m, m, 18 + 9 * m, 99, 0, 99, 0]
 }
 
 // The kinds, or the lengths, of which number e is v.
@@ -35,17 +27,6 @@ fn set_numbers(lengths: bool, e: u64, v: u64, list: &mut [u64]) {
     }
 }
 
-fn name(c: Writing) {
-    test_print::number(b"write ", c.n);
-    test_print::number(b" lists ", c.kinds);
-    test_print::number(b" ", c.lengths);
-    test_print::number(b" head ", c.head);
-    test_print::number(b" kind ", c.e);
-    test_print::number(b" ", c.v);
-    test_print::number(b" length ", c.f);
-    test_print::number(b" ", c.w);
-}
-
 fn call(n: u64, kinds: &[u64], lengths: &[u64], head: &mut [u8]) {
     test_print::outcome(b" ", archive::write(n, kinds, lengths, head));
     test_print::digest(b" head ", head);
@@ -53,29 +34,16 @@ fn call(n: u64, kinds: &[u64], lengths: &[u64], head: &mut [u8]) {
 }
 
 fn run(c: Writing) {
-    name(c);
-    let a = (c.kinds % 41) as usize;
-    let b = (c.lengths % 41) as usize;
-    let h = (c.head % 401) as usize;
+    test_print::form(b"write # lists # # head # kind # # length # #", &c);
+    let a = (c[KINDS] % 41) as usize;
+    let b = (c[LENGTHS] % 41) as usize;
+    let h = (c[HEAD] % 401) as usize;
     let mut kinds = [0u64; 40];
     let mut lengths = [0u64; 40];
     let mut head = [90u8; files::SPACE];
-    set_numbers(false, c.e, c.v, &mut kinds);
-    set_numbers(true, c.f, c.w, &mut lengths);
-    call(c.n, &kinds[0..a], &lengths[0..b], &mut head[0..h]);
-}
-
-// The longest lists have 40 numbers, and their head 400 bytes.
-fn counts(k: usize) -> Writing {
-    let t = cases::COUNTS;
-    let n = t[k % 13];
-    if n < 40 {
-        return right(n);
-    }
-    let mut c = right(40);
-    c.n = n;
-    c.head = 400;
-    c
+    set_numbers(false, c[KIND], c[KIND + 1], &mut kinds);
+    set_numbers(true, c[LENGTH], c[LENGTH + 1], &mut lengths);
+    call(c[0], &kinds[0..a], &lengths[0..b], &mut head[0..h]);
 }
 
 // The first entry and the last of n.
@@ -90,8 +58,8 @@ fn kinds(k: usize) -> Writing {
     let t = cases::KINDS;
     let n = cases::some((k / 12) as u64);
     let mut c = right(n);
-    c.e = end_entry(k / 6, n);
-    c.v = t[k % 6];
+    c[KIND] = end_entry(k / 6, n);
+    c[KIND + 1] = t[k % 6];
     c
 }
 
@@ -99,17 +67,8 @@ fn lengths(k: usize) -> Writing {
     let t = cases::LENGTHS;
     let n = cases::some((k / 8) as u64);
     let mut c = right(n);
-    c.f = end_entry(k / 4, n);
-    c.w = t[k % 4];
-    c
-}
-
-fn offsets(k: usize) -> Writing {
-    let t = cases::OFFSETS;
-    let i = 3 * (k % 6);
-    let mut c = right(t[i]);
-    c.f = t[i + 1];
-    c.w = t[i + 2];
+    c[LENGTH] = end_entry(k / 4, n);
+    c[LENGTH + 1] = t[k % 4];
     c
 }
 
@@ -117,42 +76,38 @@ fn offsets(k: usize) -> Writing {
 fn longs(k: u64) -> Writing {
     let n = cases::some(k / 27);
     let mut c = right(n);
-    c.kinds = std::num::wrapping_sub_u64(n % 100 + k / 9 % 3, 1);
-    c.lengths = std::num::wrapping_sub_u64(n % 100 + k / 3 % 3, 1);
-    c.head = 17 + 9 * (n % 100) + k % 3;
+    c[KINDS] = std::num::wrapping_sub_u64(n % 100 + k / 9 % 3, 1);
+    c[LENGTHS] = std::num::wrapping_sub_u64(n % 100 + k / 3 % 3, 1);
+    c[HEAD] = 17 + 9 * (n % 100) + k % 3;
     c
 }
 
-fn several(k: usize) -> Writing {
-    let t = cases::SEVERAL_WRITES;
-    let i = 7 * (k % 10);
-    let mut c = right(t[i]);
-    c.kinds = t[i + 1];
-    c.lengths = t[i + 2];
-    c.e = t[i + 3];
-    c.v = t[i + 4];
-    c.f = t[i + 5];
-    c.w = t[i + 6];
-    c
+fn chosen(k: usize) -> Writing {
+    let t = cases::WRITES;
+    let i = 8 * (k % 29);
+    [
+        t[i],
+        t[i + 1],
+        t[i + 2],
+        t[i + 3],
+        t[i + 4],
+        t[i + 5],
+        t[i + 6],
+        t[i + 7],
+    ]
 }
 
 fn case(k: usize) -> Writing {
-    if k < 13 {
-        return counts(k);
+    if k < 29 {
+        return chosen(k);
     }
-    if k < 49 {
-        return kinds(k - 13);
+    if k < 65 {
+        return kinds(k - 29);
     }
-    if k < 73 {
-        return lengths(k - 49);
+    if k < 89 {
+        return lengths(k - 65);
     }
-    if k < 79 {
-        return offsets(k - 73);
-    }
-    if k < 160 {
-        return longs(k as u64 - 79);
-    }
-    several(k - 160)
+    longs(k as u64 - 89)
 }
 
 pub fn all() {

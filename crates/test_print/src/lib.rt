@@ -18,6 +18,27 @@ pub fn number(name: &[u8], n: u64) {
     io::print_decimal(STDOUT_FILENO, n);
 }
 
+// Words with a number in the place of each mark.
+pub fn form(words: &[u8], numbers: &[u64]) {
+    let mut k = 0;
+    for i in 0..words.len() {
+        k = form_byte(words[i], numbers, k);
+    }
+}
+
+// One byte of it, and which number is the next.
+fn form_byte(b: u8, numbers: &[u64], k: usize) -> usize {
+    if b != b'#' {
+        text(&[b]);
+        return k;
+    }
+    if k < numbers.len() {
+        io::print_decimal(STDOUT_FILENO, numbers[k]);
+        return k + 1;
+    }
+    k
+}
+
 // A number in 16 hexadecimal digits, behind its name.
 pub fn hex(name: &[u8], n: u64) {
     text(name);

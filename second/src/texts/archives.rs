@@ -70,7 +70,7 @@ impl Writing {
 }
 
 pub fn archive_writes() -> String {
-    written_counts() + &written_numbers() + &written_offsets() + &written_list_lengths() + &written_several()
+    written_counts() + &written_offsets() + &written_several() + &written_numbers() + &written_list_lengths()
 }
 
 /// Counts in and outside 1..32. Where the count is large the lists have 40 numbers and the head 400 bytes.
@@ -236,11 +236,13 @@ impl Reading {
 }
 
 pub fn archive_reads() -> String {
-    read_counts_and_sizes()
-        + &read_first_bytes_and_counts()
+    read_other_counts()
+        + &read_several()
+        + &read_lengths_first()
+        + &read_counts_and_sizes()
+        + &read_first_bytes()
         + &read_entries()
         + &read_cut_off()
-        + &read_several()
         + &read_large()
         + &read_list_lengths()
 }
@@ -285,12 +287,18 @@ fn read_counts_and_sizes() -> String {
     text
 }
 
-/// Each of the first 16 bytes wrong, then other counts than the head was made for.
-fn read_first_bytes_and_counts() -> String {
+/// Each of the first 16 bytes wrong.
+fn read_first_bytes() -> String {
     let mut text = String::new();
     for place in 0..16 {
         text += &changed(2, place, 0).line();
     }
+    text
+}
+
+/// Other counts than the head was made for.
+fn read_other_counts() -> String {
+    let mut text = String::new();
     for (place, value) in [(16, 1), (17, 0), (17, 1), (17, 3), (17, 32), (17, 33), (17, 255)] {
         text += &changed(2, place, value).line();
     }
@@ -389,7 +397,7 @@ fn read_large() -> String {
     text
 }
 
-/// First bytes and lists that are too short by one, right, or too long by one; then 2 where 10 would apply too.
+/// First bytes and lists that are too short by one, right, or too long by one.
 fn read_list_lengths() -> String {
     let mut text = String::new();
     for first in 0..=2 {
@@ -404,6 +412,12 @@ fn read_list_lengths() -> String {
             }
         }
     }
+    text
+}
+
+/// 2 where 10 would apply too.
+fn read_lengths_first() -> String {
+    let mut text = String::new();
     for first in [0, 2] {
         let mut reading = sized(2, 10);
         reading.first = first;
