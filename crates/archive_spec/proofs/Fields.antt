@@ -1,6 +1,6 @@
 -- Numbers in bytes, over how many bytes: a number's bytes are read as that number, and the bytes of a number that was read are those that were read.
 -- Assumes nothing.
-use Prim.Native.Nat.{ℕ, suc, _+_, _-_, _*_, _/_, _%_, _^_, _≤_, _<_}
+use Prim.Native.Nat.{ℕ, _+_, _-_, _*_, _/_, _%_, _^_, _≤_, _<_}
 use mathlib.Core.Path.{_≡_, refl, sym, ap, _∙_}
 use mathlib.Core.List.{List}
 use native.Mathlib.Nat.{lt-of-lt-of-le}
@@ -9,7 +9,7 @@ use lib.ListN.{length, getD, take, drop}
 use lib.Pow.{pow-mono}
 use Rattle.prelude.proofs.Lists.{part-long}
 use Rattle.bits.specs.Bits.{num, digit, bitAt, packs, Bytes}
-use Rattle.bits.proofs.Numbers.{num-lt, num-ext, num-split, num-is, num-part, digit-num, digit-lt}
+use Rattle.bits.proofs.Numbers.{num-lt, num-split, num-is, num-part, digit-num, digit-lt}
 use Rattle.bits.proofs.Packing.{bitOf-lt, bitOf-part, bitOf-packs, num-bitOf, packs-bitOf, packs-ext, length-packs, part-bytes}
 use Rattle.archive_spec.specs.File.{bytesOf, numberAt}
 use Rattle.archive_spec.specs.Steps.{Number}
@@ -20,13 +20,6 @@ bytes-long k x = length-packs 8 k (digit (8 * k) x)
 pub number-lt : (k : ℕ) (s : List ℕ) (a : ℕ) → numberAt k s a < 2 ^ (8 * k)
 unfolding numberAt
 number-lt k s a = num-lt (8 * k) (bitAt s) (8 * a) (bitOf-lt 8 s)
-
--- only the k bytes count
-pub number-part : (k : ℕ) (s : List ℕ) (a : ℕ) (t : List ℕ) (b : ℕ) → take k (drop a s) ≡ take k (drop b t) → numberAt k s a ≡ numberAt k t b
-unfolding numberAt
-number-part k s a t b e =
-    num-ext (8 * k) (bitAt s) (bitAt t) (8 * a) (8 * b)
-    (λ j l. sym (bitOf-part 8 s a k j l) ∙ ap (λ (p : List ℕ). bitAt p j) e ∙ bitOf-part 8 t b k j l)
 
 -- ---- there and back
 

@@ -17,12 +17,12 @@ use Rattle.prelude.proofs.LoopLaws.{PassedOver, first-here, first-end, first-ho
 use Rattle.answer.specs.Numbers.{allDone, outsideSet, wrongLength, notArchive, badEntry, misplaced}
 use Rattle.answer.specs.Rows.{Row, each, done, refused, wrong, bufferPlace, rowNumber, placesOf, holdsAt, firstOf, answerOf, rising}
 use Rattle.answer.specs.Demand1.{Exactly, Demand1}
-use Rattle.answer.specs.Outcomes.{Outcome, written}
+use Rattle.answer.specs.Outcomes.{Outcome}
 use Rattle.answer.specs.Steps.{inTurn, rowThen, faultsThen, NoFault, RowPassed, Passed}
 use Rattle.answer.specs.declared.Answer.{Answer}
 use Rattle.answer.proofs.Table.{exactly, granted, demand-1}
 use Rattle.answer.proofs.Turns.{in-turn, by-turns, passed, granted-passed, early-refused, early-passed, turn-refused, turn-passed, right-length}
-use Rattle.archive_spec.specs.File.{fixedBytes, fixed, headBytes, mostEntries, mostHeadBytes, numberAt, headOf, countIn, kindIn, offsetIn, lengthIn, countOutside}
+use Rattle.archive_spec.specs.File.{fixedBytes, fixed, headBytes, mostEntries, mostHeadBytes, numberAt, headOf, countIn, kindIn, countOutside}
 use Rattle.archive_spec.specs.Write.{nth, anyBelow, entryOutside, handedIn, writeOutside, writeRows, writeAnswer, writeLeaves}
 use Rattle.archive_spec.specs.Read.{fixedDiffers, isNoArchive, atPlace, badCount, badKind, offRule, openEarlyRows, openLateRows, openRows, openAnswer, overwritten, tableIn}
 use Rattle.archive_spec.specs.Read.{openLeaves}
@@ -203,7 +203,7 @@ module _ (size : ℕ) (s : List ℕ) (k o l : ℕ) {r : Answer} (e : r ≡ answe
 
 -- ---- what a granted read has shown
 
-pub record Opened (size : ℕ) (s : List ℕ) (k o l : ℕ) : Type 0 where
+pub record ReadShown (size : ℕ) (s : List ℕ) (k o l : ℕ) : Type 0 where
   pub bytes : length s ≡ min size mostHeadBytes
   pub kinds : k ≡ mostEntries
   pub offsets : o ≡ mostEntries
@@ -213,9 +213,9 @@ pub record Opened (size : ℕ) (s : List ℕ) (k o l : ℕ) : Type 0 where
   pub kind : (e : ℕ) → e < countIn s → badKind size s e ≡ false
   pub rule : (e : ℕ) → e < countIn s → offRule size s (countIn s) e ≡ false
 
-pub opened : (size : ℕ) (s : List ℕ) (k o l : ℕ) {r : Answer} → r ≡ openAnswer size s k o l → r .number ≡ allDone → Opened size s k o l
+pub open-shown : (size : ℕ) (s : List ℕ) (k o l : ℕ) {r : Answer} → r ≡ openAnswer size s k o l → r .number ≡ allDone → ReadShown size s k o l
 unfolding openAnswer openEarlyRows openLateRows rising rowNumber Passed RowPassed NoFault
-opened size s k o l e z =
+open-shown size s k o l e z =
     let g = granted-passed (openRows size s k o l) (countIn s) refl e z in
     let long = g .0 in
     let c = none-below (atPlace (badCount size s) (badKind size s)) (suc (countIn s)) (g .1 .1 .0) in
@@ -245,7 +245,7 @@ pub record Room (r : Answer) (n k o l : ℕ) : Type 0 where
 
 pub open-room : (size : ℕ) (s : List ℕ) (k o l : ℕ) {r : Answer} → r ≡ openAnswer size s k o l → r .number ≡ allDone → Room r (countIn s) k o l
 open-room size s k o l {r} e z =
-    let g = opened size s k o l e z in
+    let g = open-shown size s k o l e z in
     let c : r .count ≡ countIn s = ap (λ (a : Answer). a .count) (e ∙ granted (open-exactly size s k o l) (ap (λ (a : Answer). a .number) (sym e) ∙ z)) in
     record { counts = c; few = rw c (opened-count size s (g .count) .few); kinds-long = g .kinds; offsets-long = g .offsets; lengths-long = g .lengths }
 

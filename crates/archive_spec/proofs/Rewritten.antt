@@ -2,14 +2,13 @@
 use Prim.Native.Nat.{ℕ, zero, suc, _+_, _-_, _≤_, _<_}
 use mathlib.Core.Bool.{false, not, _&&_, _||_}
 use mathlib.Core.Path.{_≡_, refl, sym, ap, _∙_}
-use mathlib.Core.List.{List, [], _∷_, _++_}
+use mathlib.Core.List.{List, _++_}
 use native.Mathlib.Omega.{arith}
 use borrow.Author.Tests.{ltb-false, le-ltb, eq-eqb, eqb-true, not-false}
 use lib.Dec.{ltb, eqb}
 use lib.ListN.{length, getD, take, drop, length-take, List·getD-append}
 use lib.Seq.{ext-getD, take-at, take-add, drop-drop, getD-take}
 use Rattle.prelude.specs.Lists.{tabulate}
-use Rattle.prelude.specs.Loops.{first}
 use Rattle.prelude.proofs.Common.{or-left, or-right}
 use Rattle.prelude.proofs.Lists.{length-tabulate, getD-tabulate}
 use Rattle.bits.specs.Bits.{Bytes}
@@ -20,14 +19,14 @@ use Rattle.answer.specs.declared.Answer.{Answer}
 use Rattle.answer.proofs.Turns.{all-passed, length-right, none-there}
 use Rattle.answer.proofs.Meets.{written-done}
 use Rattle.archive_spec.specs.File.{fixedBytes, countBytes, kindBytes, fieldBytes, entryBytes, headBytes, mostEntries, fieldMost, bytesOf}
-use Rattle.archive_spec.specs.File.{fixed, startOf, tableEntry, headTo, headOf, countIn, kindIn, offsetIn, lengthIn, countOutside, kindOutside}
+use Rattle.archive_spec.specs.File.{fixed, startOf, tableEntry, headTo, countIn, kindIn, offsetIn, lengthIn, kindOutside}
 use Rattle.archive_spec.specs.Write.{nth, anyBelow, entryOutside, handedIn, writeOutside, writeRows, writeAnswer, writeLeaves}
-use Rattle.archive_spec.specs.Read.{fixedDiffers, isNoArchive, badCount, cutOff, badKind, offRule, openAnswer, overwritten, tableIn, openLeaves}
+use Rattle.archive_spec.specs.Read.{fixedDiffers, isNoArchive, cutOff, badKind, offRule, openAnswer, overwritten, tableIn, openLeaves}
 use Rattle.archive_spec.specs.RoundTrip.{ReadWrite}
 use Rattle.archive_spec.proofs.Fields.{bytes-of, number-lt}
 use Rattle.archive_spec.proofs.Starts.{start-ext}
 use Rattle.archive_spec.proofs.Heads.{fixed-long, head-none, head-more}
-use Rattle.archive_spec.proofs.Judging.{Counted, none-below, Opened, opened, opened-count}
+use Rattle.archive_spec.proofs.Judging.{Counted, none-below, ReadShown, open-shown, opened-count}
 
 -- ---- what the tests have shown of entry e
 
@@ -53,7 +52,7 @@ ruled size s e b r =
       last = λ z. eqb-true ends size (not-false (eqb ends size) (rw (eq-eqb (suc e) n z) at (or-right o l rest)));
     }
 
-module _ (size : ℕ) (s : List ℕ) (k o l : ℕ) (bytes : Bytes s) (g : Opened size s k o l) where
+module _ (size : ℕ) (s : List ℕ) (k o l : ℕ) (bytes : Bytes s) (g : ReadShown size s k o l) where
   abbrev n : ℕ
   n = countIn s
 
@@ -159,7 +158,7 @@ pub read-write : (size : ℕ) (s kinds offsets lengths : List ℕ) → Bytes s
     → openAnswer size s (length kinds) (length offsets) (length lengths) .number ≡ allDone → ReadWrite size s (openLeaves size s kinds offsets lengths)
 unfolding openLeaves writeLeaves
 read-write size s kinds offsets lengths bytes z =
-    let g = opened size s (length kinds) (length offsets) (length lengths) refl z in
+    let g = open-shown size s (length kinds) (length offsets) (length lengths) refl z in
     let n = countIn s in
     let left : openLeaves size s kinds offsets lengths ≡ tableIn s kinds offsets lengths =
     written-done (openAnswer size s (length kinds) (length offsets) (length lengths)) (tableIn s kinds offsets lengths) (kinds, (offsets, lengths)) z in

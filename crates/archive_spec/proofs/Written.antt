@@ -1,19 +1,16 @@
 -- WHAT WAS WRITTEN IS READ. Assumes nothing.
-use Prim.Native.Nat.{ℕ, zero, suc, _+_, _≤_, _<_, min}
+use Prim.Native.Nat.{ℕ, zero, suc, _≤_, _<_, min}
 use mathlib.Core.Bool.{Bool, true, false, _&&_}
 use mathlib.Core.Path.{_≡_, refl, sym, ap, _∙_}
-use mathlib.Core.List.{List, [], _∷_, _++_, append-nil, append-assoc}
+use mathlib.Core.List.{List}
 use native.Mathlib.Omega.{arith}
-use borrow.Author.Tests.{ltb-false, le-ltb, eq-eqb, eqb-true, not-false}
-use lib.Dec.{ltb, eqb}
+use borrow.Author.Tests.{le-ltb, eq-eqb}
+use lib.Dec.{eqb}
 use lib.ListN.{length, getD, take, drop, length-append, length-take}
-use lib.Seq.{ext-getD, take-take, take-at, take-add, drop-drop, getD-take, take-length}
+use lib.Seq.{take-take, getD-take}
 use Rattle.prelude.specs.Lists.{tabulate}
-use Rattle.prelude.specs.Loops.{upto, first}
-use Rattle.prelude.proofs.Common.{or-left, or-right}
-use Rattle.prelude.proofs.Lists.{length-tabulate, getD-tabulate, tabulate-ext}
-use Rattle.prelude.proofs.LoopLaws.{first-none}
-use Rattle.bits.specs.Bits.{Bytes}
+use Rattle.prelude.specs.Loops.{upto}
+use Rattle.prelude.proofs.Lists.{tabulate-ext}
 use Rattle.answer.specs.Numbers.{allDone}
 use Rattle.answer.specs.Rows.{done}
 use Rattle.answer.specs.Steps.{Passed, RowPassed, NoFault}
@@ -21,18 +18,17 @@ use Rattle.answer.specs.Outcomes.{written}
 use Rattle.answer.specs.declared.Answer.{Answer}
 use Rattle.answer.proofs.Turns.{all-passed, length-right, none-there}
 use Rattle.answer.proofs.Meets.{written-done}
-use Rattle.archive_spec.specs.File.{fixedBytes, countBytes, kindBytes, fieldBytes, entryBytes, headBytes, mostEntries, mostHeadBytes, fieldMost, bytesOf}
-use Rattle.archive_spec.specs.File.{fixed, startOf, tableEntry, headTo, headOf, fileOf, countIn, kindIn, offsetIn, lengthIn, countOutside, kindOutside}
-use Rattle.archive_spec.specs.Write.{nth, anyBelow, entryOutside, handedIn, writeOutside, writeRows, writeAnswer, writeLeaves}
-use Rattle.archive_spec.specs.Read.{fixedDiffers, isNoArchive, atPlace, badCount, cutOff, badKind, offRule, openEarlyRows, openLateRows, openRows, openAnswer, overwritten, tableIn}
+use Rattle.archive_spec.specs.File.{fixedBytes, headBytes, mostEntries, mostHeadBytes}
+use Rattle.archive_spec.specs.File.{fixed, startOf, headOf, fileOf, countIn, kindIn, offsetIn, lengthIn}
+use Rattle.archive_spec.specs.Write.{nth, writeAnswer}
+use Rattle.archive_spec.specs.Read.{fixedDiffers, isNoArchive, atPlace, badCount, badKind, offRule, openEarlyRows, openLateRows, openRows, openAnswer, overwritten, tableIn}
 use Rattle.archive_spec.specs.Read.{openLeaves}
-use Rattle.archive_spec.specs.RoundTrip.{WriteRead, ReadWrite}
-use Rattle.archive_spec.specs.Steps.{Inside, Head, outsideAt}
-use Rattle.archive_spec.proofs.Fields.{bytes-long, bytes-of, number-lt}
+use Rattle.archive_spec.specs.RoundTrip.{WriteRead}
+use Rattle.archive_spec.specs.Steps.{Inside}
 use Rattle.archive_spec.proofs.Starts.{start-none, start-more, start-ext, start-behind, outside-at, inside-of, kind-small}
-use Rattle.archive_spec.proofs.Heads.{part-of-front, front-stays, piece-stands, fixed-long, head-none, head-more, head-long}
+use Rattle.archive_spec.proofs.Heads.{front-stays, piece-stands, head-long}
 use Rattle.archive_spec.proofs.Heads.{fixed-in, count-in, kind-in, offset-in, length-in}
-use Rattle.archive_spec.proofs.Judging.{Counted, counted, none-below, written-head, head-counted, Opened, opened, opened-count}
+use Rattle.archive_spec.proofs.Judging.{Counted, written-head, head-counted, open-shown}
 
 -- ---- a file that begins with a head, whose size is the end of its last body, is opened
 
@@ -156,10 +152,10 @@ write-read n kinds lengths head body z fill =
     let fits : (e : ℕ) → e < n → Inside (nth kinds e) (startOf n (nth lengths) e) (nth lengths e) =
     λ e l. inside-of (nth kinds e) (startOf n (nth lengths) e) (nth lengths e) refl
     (outside-at n (nth kinds) (nth lengths) e (startOf n (nth lengths) e) refl ∙ h .inside e l) in
-    let opened = opens-lists n (nth kinds) (nth lengths) (length f) (take mostHeadBytes f) (head-counted n kinds lengths head z) fits b ends long in
+    let open-shown = opens-lists n (nth kinds) (nth lengths) (length f) (take mostHeadBytes f) (head-counted n kinds lengths head z) fits b ends long in
     record {
-      answer = λ k o l p q r. opened k o l p q r .0;
-      lists = λ k o l p q r. opened k o l p q r .1;
+      answer = λ k o l p q r. open-shown k o l p q r .0;
+      lists = λ k o l p q r. open-shown k o l p q r .1;
       stands = body-stands n (nth kinds) (nth lengths) body fill;
       end = ends;
     }

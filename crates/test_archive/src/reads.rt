@@ -123,16 +123,22 @@ fn run(c: Reading) {
     call_with(c[SIZE], &bytes[0..long], c[KINDS], c[OFFSETS], c[LENGTHS]);
 }
 
-fn sizes(k: usize) -> Reading {
-    let t = cases::SIZES;
-    let size = t[k % 19];
-    let mut c = right(cases::some((k / 19) as u64));
-    if size < 2 || 4 < size {
-        c[SIZE] = size;
-    } else {
-        c[SIZE] = std::num::wrapping_sub_u64(std::num::wrapping_add_u64(c[SIZE], size), 3);
+// Every number of entries; then sizes on both sides of each edge.
+fn whole(k: u64) -> Reading {
+    if k < 34 {
+        return right(k);
     }
+    let t = cases::SIZES;
+    let mut c = right(cases::some((k - 34) / 19));
+    c[SIZE] = size_of(c[SIZE], t[((k - 34) % 19) as usize]);
     c
+}
+
+fn size_of(end: u64, size: u64) -> u64 {
+    if size < 2 || 4 < size {
+        return size;
+    }
+    std::num::wrapping_sub_u64(std::num::wrapping_add_u64(end, size), 3)
 }
 
 // Every entry of 1, of 2 and of 32, one behind the other: how many there are, and which it is.
@@ -150,28 +156,36 @@ fn entry(m: u64) -> u64 {
     if m < 3 { m - 1 } else { m - 3 }
 }
 
-fn kinds(k: u64) -> Reading {
-    let m = k / 3;
-    let x = if k % 3 == 0 { 0 } else { 4 + k % 3 / 2 * 251 };
-    changed(entries(m), 18 + 9 * (entry(m) % 100), x)
+// A byte set: each of the first sixteen; then the kind of every entry, three times; then each other byte of every entry.
+fn with_byte(k: u64) -> Reading {
+    if k < 16 {
+        return changed(2, k, 0);
+    }
+    if k < 121 {
+        let m = (k - 16) / 3;
+        return changed(entries(m), 18 + 9 * (entry(m) % 100), kind(k - 16));
+    }
+    let m = (k - 121) / 8;
+    changed(entries(m), 19 + 9 * (entry(m) % 100) + (k - 121) % 8, 165)
 }
 
-fn fields(k: u64) -> Reading {
-    let m = k / 8;
-    changed(entries(m), 19 + 9 * (entry(m) % 100) + k % 8, 165)
+fn kind(k: u64) -> u64 {
+    if k % 3 == 0 {
+        return 0;
+    }
+    if k % 3 == 1 { 4 } else { 255 }
 }
 
-fn cut_off(size: u64) -> Reading {
+// Every size from 16 to 306; then from 18 on with a kind that is none in the entry that is cut off there.
+fn cut_off(k: u64) -> Reading {
     let mut c = right(32);
-    c[SIZE] = size;
-    c
-}
-
-// The same with a kind that is none in the entry that is cut off there.
-fn cut_off_kind(size: u64) -> Reading {
-    let mut c = cut_off(size);
-    if size < 306 {
-        c[BYTE] = size - size % 9;
+    if k < 291 {
+        c[SIZE] = 16 + k;
+        return c;
+    }
+    c[SIZE] = k - 273;
+    if k < 579 {
+        c[BYTE] = 18 + (k - 291) / 9 * 9;
     }
     c
 }
@@ -234,35 +248,19 @@ fn case(k: u64) -> Reading {
     if k < 28 {
         return chosen(k as usize);
     }
-    if k < 62 {
-        return right(k - 28);
-    }
     if k < 119 {
-        return sizes((k - 62) as usize);
-    }
-    if k < 135 {
-        return changed(2, k - 119, 0);
-    }
-    if k < 240 {
-        return kinds(k - 135);
+        return whole(k - 28);
     }
     if k < 520 {
-        return fields(k - 240);
+        return with_byte(k - 119);
     }
-    if k < 811 {
-        return cut_off(k - 504);
+    if k < 1100 {
+        return cut_off(k - 520);
     }
-    late_case(k - 811)
-}
-
-fn late_case(k: u64) -> Reading {
-    if k < 289 {
-        return cut_off_kind(k + 18);
+    if k < 1140 {
+        return large((k - 1100) as usize);
     }
-    if k < 329 {
-        return large((k - 289) as usize);
-    }
-    lengths(k - 329)
+    lengths(k - 1140)
 }
 
 pub fn all() {

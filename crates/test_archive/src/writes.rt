@@ -33,17 +33,21 @@ fn call(n: u64, kinds: &[u64], lengths: &[u64], head: &mut [u8]) {
     test_print::end();
 }
 
+fn call_with(n: u64, kinds: &[u64], lengths: &[u64], bytes: u64) {
+    let h = (bytes % 401) as usize;
+    let mut head = [90u8; files::SPACE];
+    call(n, kinds, lengths, &mut head[0..h]);
+}
+
 fn run(c: Writing) {
     test_print::form(b"write # lists # # head # kind # # length # #", &c);
     let a = (c[KINDS] % 41) as usize;
     let b = (c[LENGTHS] % 41) as usize;
-    let h = (c[HEAD] % 401) as usize;
     let mut kinds = [0u64; 40];
     let mut lengths = [0u64; 40];
-    let mut head = [90u8; files::SPACE];
     set_numbers(false, c[KIND], c[KIND + 1], &mut kinds);
     set_numbers(true, c[LENGTH], c[LENGTH + 1], &mut lengths);
-    call(c[0], &kinds[0..a], &lengths[0..b], &mut head[0..h]);
+    call_with(c[0], &kinds[0..a], &lengths[0..b], c[HEAD]);
 }
 
 // The first entry and the last of n.
@@ -54,6 +58,7 @@ fn end_entry(k: usize, n: u64) -> u64 {
     if k % 2 == 0 { 0 } else { n - 1 }
 }
 
+// A kind, then a length, at the edges of its field, in the first entry and in the last.
 fn kinds(k: usize) -> Writing {
     let t = cases::KINDS;
     let n = cases::some((k / 12) as u64);
