@@ -4,7 +4,7 @@ ghost use Prim.Native.Nat.{_+_, _*_, _^_, _≤_, _<_};
 ghost use lib.ListN.{length, getD};
 ghost use Rattle.archive_spec.specs.File.{mostEntries, headBytes, fixedBytes, fixed, bytesOf, numberAt, countOutside, kindOutside};
 ghost use Rattle.archive_spec.specs.Read.{overwritten};
-ghost use Rattle.archive_spec.specs.Steps.{fieldIn, Number, placed};
+ghost use Rattle.archive_spec.specs.Steps.{fieldIn, Number, placed, Room, Listed};
 use crate::BEFORE_ENTRIES;
 use crate::ENTRY_BYTES;
 use crate::MOST_ENTRIES;
@@ -70,8 +70,24 @@ pub(crate) fn put_number(x: u64, k: usize, at: usize, to: &mut [u8])
     }
 }
 
+// Lists the three fields of n entries.
+pub(crate) fn list_all(
+    first: &[u8],
+    n: usize,
+    kinds: &mut [u64],
+    offsets: &mut [u64],
+    lengths: &mut [u64],
+)
+    requires { ⌜ Room n (length (now kinds)) (length (now offsets)) (length (now lengths)) ⌝ }
+    ensures { λ _. ⌜ Listed n (now (first .entry)) (now (kinds .entry)) (now (offsets .entry)) (now (lengths .entry)) (now (kinds .exit)) (now (offsets .exit)) (now (lengths .exit)) ⌝ }
+{
+    list(first, 0, 1, n, kinds);
+    list(first, 1, 4, n, offsets);
+    list(first, 5, 4, n, lengths);
+}
+
 // Lists one field of n entries: the k bytes from byte `at` of each on.
-pub(crate) fn list(first: &[u8], at: usize, k: usize, n: usize, to: &mut [u64])
+fn list(first: &[u8], at: usize, k: usize, n: usize, to: &mut [u64])
     requires { ⌜ (at ≤ 8) × (k ≤ 4) × (n ≤ mostEntries) × (n ≤ length (now to)) ⌝ }
     ensures { λ _. ⌜ now (to .exit) ≡ overwritten n (fieldIn k at (now (first .entry))) (now (to .entry)) ⌝ }
 {

@@ -53,10 +53,7 @@ pub fn read(
         lengths.len() as u64,
     );
     if r.number == 0 {
-        let n = r.count as usize;
-        field::list(first, 0, 1, n, kinds);
-        field::list(first, 1, 4, n, offsets);
-        field::list(first, 5, 4, n, lengths);
+        field::list_all(first, r.count as usize, kinds, offsets, lengths);
     }
     r
 }

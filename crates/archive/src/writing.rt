@@ -3,9 +3,9 @@ ghost use mathlib.Core.Path.{_≡_};
 ghost use Prim.Native.Nat.{_+_, _≤_, min};
 ghost use lib.ListN.{length};
 ghost use Rattle.prelude.specs.Loops.{first};
-ghost use Rattle.archive_spec.specs.File.{mostEntries, entryBytes, fixedBytes, fixed, tableEntry, headOf};
+ghost use Rattle.archive_spec.specs.File.{mostEntries, entryBytes, headBytes, fixedBytes, fixed, tableEntry, headOf};
 ghost use Rattle.archive_spec.specs.Write.{nth, entryOutside, writeOutside, writeAnswer};
-ghost use Rattle.archive_spec.specs.Steps.{Head, Inside, outsideAt, placed};
+ghost use Rattle.archive_spec.specs.Steps.{Head, HeadUpTo, Inside, outsideAt, placed};
 use crate::field;
 use answer::Answer;
 
@@ -81,6 +81,13 @@ pub(crate) fn put_head(n: usize, kinds: &[u64], lengths: &[u64], head: &mut [u8]
 {
     put_fixed(head);
     field::put_number(n as u64, 2, 16, head);
+    put_entries(n, kinds, lengths, head);
+}
+
+fn put_entries(n: usize, kinds: &[u64], lengths: &[u64], head: &mut [u8])
+    requires { ⌜ Head n (now kinds) (now lengths) (now head) × HeadUpTo n (now kinds) (now lengths) 0 (now head) (headBytes n) ⌝ }
+    ensures { λ _. ⌜ now (head .exit) ≡ headOf n (nth (now (kinds .entry))) (nth (now (lengths .entry))) ⌝ }
+{
     let mut from = field::entry_from(n) as u64;
     for e in 0..n {
         put_entry(kinds[e], from, lengths[e], field::entry_from(e), head);

@@ -22,11 +22,12 @@ use Rattle.answer.specs.Steps.{inTurn, rowThen, faultsThen, NoFault, RowPassed,
 use Rattle.answer.specs.declared.Answer.{Answer}
 use Rattle.answer.proofs.Table.{exactly, granted, demand-1}
 use Rattle.answer.proofs.Turns.{in-turn, by-turns, passed, granted-passed, early-refused, early-passed, turn-refused, turn-passed, right-length}
+use Rattle.answer.proofs.Meets.{meets-done}
 use Rattle.archive_spec.specs.File.{fixedBytes, fixed, headBytes, mostEntries, mostHeadBytes, numberAt, headOf, countIn, kindIn, countOutside}
 use Rattle.archive_spec.specs.Write.{nth, anyBelow, entryOutside, handedIn, writeOutside, writeRows, writeAnswer, writeLeaves}
 use Rattle.archive_spec.specs.Read.{fixedDiffers, isNoArchive, atPlace, badCount, badKind, offRule, openEarlyRows, openLateRows, openRows, openAnswer, overwritten, tableIn}
 use Rattle.archive_spec.specs.Read.{openLeaves}
-use Rattle.archive_spec.specs.Steps.{fieldIn, badCountOf, entriesAnswer, Head}
+use Rattle.archive_spec.specs.Steps.{fieldIn, badCountOf, entriesAnswer, Head, Room, Listed}
 
 -- ---- DEMAND 1 of both
 
@@ -236,24 +237,31 @@ unfolding badCount
 opened-count size s e = counted (countIn s) (or-right (ltb size (headBytes 0)) (countOutside (countIn s)) e)
 
 -- and so the lists have room for what it counted
-pub record Room (r : Answer) (n k o l : ℕ) : Type 0 where
-  pub counts : r .count ≡ n
-  pub few : r .count ≤ mostEntries
-  pub kinds-long : k ≡ mostEntries
-  pub offsets-long : o ≡ mostEntries
-  pub lengths-long : l ≡ mostEntries
+open-counts : (size : ℕ) (s : List ℕ) (k o l : ℕ) {r : Answer} → r ≡ openAnswer size s k o l → r .number ≡ allDone → r .count ≡ countIn s
+open-counts size s k o l e z =
+    ap (λ (a : Answer). a .count) (e ∙ granted (open-exactly size s k o l) (ap (λ (a : Answer). a .number) (sym e) ∙ z))
 
-pub open-room : (size : ℕ) (s : List ℕ) (k o l : ℕ) {r : Answer} → r ≡ openAnswer size s k o l → r .number ≡ allDone → Room r (countIn s) k o l
+pub open-room : (size : ℕ) (s : List ℕ) (k o l : ℕ) {r : Answer} → r ≡ openAnswer size s k o l → r .number ≡ allDone → Room (r .count) k o l
 open-room size s k o l {r} e z =
     let g = open-shown size s k o l e z in
-    let c : r .count ≡ countIn s = ap (λ (a : Answer). a .count) (e ∙ granted (open-exactly size s k o l) (ap (λ (a : Answer). a .number) (sym e) ∙ z)) in
-    record { counts = c; few = rw c (opened-count size s (g .count) .few); kinds-long = g .kinds; offsets-long = g .offsets; lengths-long = g .lengths }
+    record {
+      few = rw (open-counts size s k o l e z) (opened-count size s (g .count) .few);
+      kinds-long = g .kinds;
+      offsets-long = g .offsets;
+      lengths-long = g .lengths;
+    }
 
--- ---- the three lists that the code leaves
+-- ---- what a granted read leaves
 
-pub table-left : (s kinds offsets lengths : List ℕ) (n : ℕ) {k o l : List ℕ} → n ≡ countIn s → k ≡ overwritten n (fieldIn 1 0 s) kinds
-    → o ≡ overwritten n (fieldIn 4 1 s) offsets → l ≡ overwritten n (fieldIn 4 5 s) lengths
-    → _≡_ {A = List ℕ × (List ℕ × List ℕ)} (k, (o, l)) (tableIn s kinds offsets lengths)
-table-left s kinds offsets lengths n i p q t =
-    let z : tabulate n (fieldIn 1 0 s) ≡ tabulate n (kindIn s) = tabulate-ext n (fieldIn 1 0 s) (kindIn s) (λ e h. ap (numberAt 1 s) (add-zero (headBytes e))) in
-    rw (p, q, t, z, i)
+pub open-listed : (size : ℕ) (s kinds offsets lengths : List ℕ) {r : Answer} {k o l : List ℕ}
+    → r ≡ openAnswer size s (length kinds) (length offsets) (length lengths) → r .number ≡ allDone → Listed (r .count) s kinds offsets lengths k o l
+    → Outcome (openAnswer size s (length kinds) (length offsets) (length lengths)) (openLeaves size s kinds offsets lengths) r (k, (o, l))
+unfolding openLeaves
+open-listed size s kinds offsets lengths {r} {k} {o} {l} e z t =
+    let n = countIn s in
+    let i = open-counts size s (length kinds) (length offsets) (length lengths) e z in
+    let zero-off : tabulate n (fieldIn 1 0 s) ≡ tabulate n (kindIn s) =
+    tabulate-ext n (fieldIn 1 0 s) (kindIn s) (λ e h. ap (numberAt 1 s) (add-zero (headBytes e))) in
+    let table : _≡_ {A = List ℕ × (List ℕ × List ℕ)} (k, (o, l)) (tableIn s kinds offsets lengths) =
+    rw (t .kinds-are, t .offsets-are, t .lengths-are, i, zero-off) in
+    meets-done (kinds, (offsets, lengths)) e z table

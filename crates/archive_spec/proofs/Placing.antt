@@ -10,7 +10,7 @@ use Rattle.prelude.proofs.Lists.{Filled, getD-tabulate}
 use Rattle.bits.specs.Bits.{num, digit}
 use Rattle.archive_spec.specs.File.{fixedBytes, countBytes, kindBytes, fieldBytes, headBytes, bytesOf, fixed, startOf, tableEntry, headTo, headOf}
 use Rattle.archive_spec.specs.Write.{nth}
-use Rattle.archive_spec.specs.Steps.{placed, Inside, Head}
+use Rattle.archive_spec.specs.Steps.{placed, Inside, Head, HeadUpTo}
 use Rattle.archive_spec.proofs.Starts.{start-none, start-more, outside-at, inside-of}
 use Rattle.archive_spec.proofs.Fields.{bytes-long, byte-of-number}
 use Rattle.archive_spec.proofs.Heads.{fixed-long, fixed-table, entry-long, head-none, head-more}
@@ -89,16 +89,13 @@ entry-placed kind from len at d {x} {y} {z} h p q r =
     let two : y ≡ placed d at (a ++ b) = q ∙ rw p (placed-more d at a (omega arith) (at + 1) b (omega arith) (omega arith)) in
     r ∙ rw two (placed-more d at (a ++ b) (omega arith) (at + 5) c (omega arith) (omega arith)) ∙ ap (placed d at) (append-assoc a b c)
 
--- the buffer `head` as far as entry e, whose body begins at `from`
-pub record HeadUpTo (n : ℕ) (kinds lengths : List ℕ) (e : ℕ) (head : List ℕ) (from : ℕ) : Type 0 where
-  pub within : e ≤ n
-  pub long : length head ≡ headBytes n
-  pub is : take (headBytes e) head ≡ headTo n (nth kinds) (nth lengths) e
-  pub begins : from ≡ startOf n (nth lengths) e
+-- another buffer of the same length
+pub same-head : {n : ℕ} {kinds lengths d x : List ℕ} → Head n kinds lengths d → length x ≡ headBytes n → Head n kinds lengths x
+same-head h l = record { few = h .few; kinds-long = h .kinds-long; lengths-long = h .lengths-long; head-long = l; inside = h .inside }
 
-pub head-begun : {n : ℕ} {kinds lengths d : List ℕ} {x y : List ℕ} {from : ℕ} → Head n kinds lengths d → x ≡ placed d 0 fixed
-    → y ≡ placed x fixedBytes (bytesOf countBytes n) → from ≡ headBytes n → HeadUpTo n kinds lengths 0 y from
-head-begun {n} {kinds} {lengths} {d} {x} {y} h p q i =
+pub head-begun : {n : ℕ} {kinds lengths d : List ℕ} {x y : List ℕ} → Head n kinds lengths d → x ≡ placed d 0 fixed
+    → y ≡ placed x fixedBytes (bytesOf countBytes n) → HeadUpTo n kinds lengths 0 y (headBytes n)
+head-begun {n} {kinds} {lengths} {d} {x} {y} h p q =
     let front = fixed ++ bytesOf countBytes n in
     let l : length front ≡ headBytes 0 = rw (length-append fixed (bytesOf countBytes n), fixed-long, bytes-long countBytes n) in
     let z : 0 + length front ≡ headBytes 0 = omega arith in
@@ -112,7 +109,7 @@ head-begun {n} {kinds} {lengths} {d} {x} {y} h p q i =
       within = omega arith;
       long = rw one (placed-long d 0 front fits ∙ h .head-long);
       is = ap (take (headBytes 0)) one ∙ ap (λ (k : ℕ). take k (placed d 0 front)) (sym z) ∙ placed-front d 0 front fits ∙ sym (head-none n (nth kinds) (nth lengths));
-      begins = i ∙ sym (start-none n (nth lengths));
+      begins = sym (start-none n (nth lengths));
     }
 
 module _ {n : ℕ} {kinds lengths d : List ℕ} (h : Head n kinds lengths d) {e : ℕ} {head : List ℕ} {from : ℕ} (u : HeadUpTo n kinds lengths e head from) where

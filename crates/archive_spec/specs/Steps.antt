@@ -9,9 +9,9 @@ use Rattle.prelude.specs.Loops.{first}
 use Rattle.answer.specs.Numbers.{badEntry, misplaced}
 use Rattle.answer.specs.Rows.{done, refused}
 use Rattle.answer.specs.declared.Answer.{Answer}
-use Rattle.archive_spec.specs.File.{headBytes, mostEntries, fieldMost, numberAt, countOutside, kindOutside, offsetIn}
+use Rattle.archive_spec.specs.File.{headBytes, startOf, headTo, mostEntries, fieldMost, numberAt, countOutside, kindOutside, offsetIn}
 use Rattle.archive_spec.specs.Write.{nth, entryOutside}
-use Rattle.archive_spec.specs.Read.{cutOff, badKind, offRule}
+use Rattle.archive_spec.specs.Read.{cutOff, badKind, offRule, overwritten}
 
 -- the k bytes from byte a of entry e on
 abbrev pub fieldIn : ℕ → ℕ → List ℕ → ℕ → ℕ
@@ -57,3 +57,23 @@ pub record Head (n : ℕ) (kinds lengths head : List ℕ) : Type 0 where
   pub lengths-long : length lengths ≡ n
   pub head-long : length head ≡ headBytes n
   pub inside : (e : ℕ) → e < n → entryOutside n (nth kinds) (nth lengths) e ≡ false
+
+-- the buffer `head` as far as entry e, whose body begins at `from`
+pub record HeadUpTo (n : ℕ) (kinds lengths : List ℕ) (e : ℕ) (head : List ℕ) (from : ℕ) : Type 0 where
+  pub within : e ≤ n
+  pub long : length head ≡ headBytes n
+  pub is : take (headBytes e) head ≡ headTo n (nth kinds) (nth lengths) e
+  pub begins : from ≡ startOf n (nth lengths) e
+
+-- lists that have room for n entries
+pub record Room (n kinds offsets lengths : ℕ) : Type 0 where
+  pub few : n ≤ mostEntries
+  pub kinds-long : kinds ≡ mostEntries
+  pub offsets-long : offsets ≡ mostEntries
+  pub lengths-long : lengths ≡ mostEntries
+
+-- and what they hold when n entries of s are listed in them: k, o and l
+pub record Listed (n : ℕ) (s kinds offsets lengths k o l : List ℕ) : Type 0 where
+  pub kinds-are : k ≡ overwritten n (fieldIn 1 0 s) kinds
+  pub offsets-are : o ≡ overwritten n (fieldIn 4 1 s) offsets
+  pub lengths-are : l ≡ overwritten n (fieldIn 4 5 s) lengths
