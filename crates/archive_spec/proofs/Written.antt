@@ -20,7 +20,7 @@ use Rattle.answer.proofs.Turns.{all-passed, length-right, none-there}
 use Rattle.answer.proofs.Meets.{written-done}
 use Rattle.archive_spec.specs.File.{fixedBytes, headBytes, mostEntries, mostHeadBytes}
 use Rattle.archive_spec.specs.File.{fixed, startOf, headOf, fileOf, countIn, kindIn, offsetIn, lengthIn}
-use Rattle.archive_spec.specs.Write.{nth, writeAnswer}
+use Rattle.archive_spec.specs.Write.{nth, writeAnswer, writeLeaves}
 use Rattle.archive_spec.specs.Read.{fixedDiffers, isNoArchive, atPlace, badCount, badKind, offRule, openEarlyRows, openLateRows, openRows, openAnswer, overwritten, tableIn}
 use Rattle.archive_spec.specs.Read.{openLeaves}
 use Rattle.archive_spec.specs.RoundTrip.{WriteRead}
@@ -141,7 +141,8 @@ module _ (n : ℕ) (kind len : ℕ → ℕ) (body : ℕ → List ℕ) (fill : (e
 -- "agrees with reading": a head that was written, with bodies of those lengths behind it
 pub write-read : (n : ℕ) (kinds lengths head : List ℕ) (body : ℕ → List ℕ) → writeAnswer n kinds lengths (length head) .number ≡ allDone
     → ((e : ℕ) → e < n → length (body e) ≡ nth lengths e)
-    → WriteRead n kinds lengths (fileOf n (nth kinds) (nth lengths) body n) body
+    → WriteRead n kinds lengths head (fileOf n (nth kinds) (nth lengths) body n) body
+unfolding writeLeaves
 write-read n kinds lengths head body z fill =
     let h = written-head n kinds lengths head refl z in
     let f = fileOf n (nth kinds) (nth lengths) body n in
@@ -154,6 +155,8 @@ write-read n kinds lengths head body z fill =
     (outside-at n (nth kinds) (nth lengths) e (startOf n (nth lengths) e) refl ∙ h .inside e l) in
     let open-shown = opens-lists n (nth kinds) (nth lengths) (length f) (take mostHeadBytes f) (head-counted n kinds lengths head z) fits b ends long in
     record {
+      begins = file-begins n (nth kinds) (nth lengths) body fill
+          ∙ sym (written-done (writeAnswer n kinds lengths (length head)) (headOf n (nth kinds) (nth lengths)) head z);
       answer = λ k o l p q r. open-shown k o l p q r .0;
       lists = λ k o l p q r. open-shown k o l p q r .1;
       stands = body-stands n (nth kinds) (nth lengths) body fill;

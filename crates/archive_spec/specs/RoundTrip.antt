@@ -1,18 +1,18 @@
 -- Document 02, M-100: writing "agrees with reading both ways". The theorems are `write-read` of proofs/Written.antt and
--- `read-write` of proofs/Rewritten.antt.
--- Assumes nothing: these are definitions.
+-- `read-write` of proofs/Rewritten.antt. Assumes nothing: these are definitions.
 use Prim.Native.Nat.{ℕ, _<_}
 use mathlib.Core.Path.{_≡_}
 use mathlib.Core.List.{List}
 use lib.ListN.{length, take, drop}
 use Rattle.answer.specs.Rows.{done}
-use Rattle.archive_spec.specs.File.{headBytes, mostEntries, mostHeadBytes, startOf, fileOf, countIn}
+use Rattle.archive_spec.specs.File.{headBytes, mostEntries, mostHeadBytes, startOf, countIn}
 use Rattle.archive_spec.specs.Write.{nth, writeAnswer, writeLeaves}
 use Rattle.archive_spec.specs.Read.{openAnswer, openLeaves, overwritten}
 
--- what was written, with bodies behind it, is read as just those kinds, offsets and lengths, whatever the lists held; each body stands where its
--- entry says, and the last one ends the file
-pub record WriteRead (n : ℕ) (kinds lengths : List ℕ) (f : List ℕ) (body : ℕ → List ℕ) : Type 0 where
+-- a file f that begins with what was written, and bodies behind it, is read as just those kinds, offsets and lengths, whatever the lists held; each
+-- body stands where its entry says, and the last one ends the file
+pub record WriteRead (n : ℕ) (kinds lengths head : List ℕ) (f : List ℕ) (body : ℕ → List ℕ) : Type 0 where
+  pub begins : take (headBytes n) f ≡ writeLeaves n kinds lengths head
   pub answer : (k o l : List ℕ) → length k ≡ mostEntries → length o ≡ mostEntries → length l ≡ mostEntries
       → openAnswer (length f) (take mostHeadBytes f) (length k) (length o) (length l) ≡ done n
   pub lists : (k o l : List ℕ) → length k ≡ mostEntries → length o ≡ mostEntries → length l ≡ mostEntries

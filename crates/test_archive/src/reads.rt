@@ -3,6 +3,7 @@
 ghost use Prim.Native.Nat.{_≤_};
 use crate::cases;
 use crate::files;
+use answer::Answer;
 
 // A case: a head of so many entries, one length of which is replaced; the file's size; two bytes that are set, with their values (999 is none); with how many
 // bytes it is handed in, 1 being right, and how many numbers the lists have.
@@ -90,7 +91,8 @@ fn print_lists(kinds: &[u64], offsets: &[u64], lengths: &[u64]) {
 }
 
 fn call(size: u64, first: &[u8], kinds: &mut [u64], offsets: &mut [u64], lengths: &mut [u64]) {
-    test_print::outcome(b" ", archive::read(size, first, kinds, offsets, lengths));
+    let answer: Answer = archive::read(size, first, kinds, offsets, lengths);
+    test_print::outcome(b" ", answer);
     print_lists(kinds, offsets, lengths);
 }
 

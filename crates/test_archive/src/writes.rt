@@ -1,6 +1,7 @@
 // Heads written, and refused calls. Each group of cases is a function from its number in the group; the order is that of second/README.md.
 use crate::cases;
 use crate::files;
+use answer::Answer;
 
 // A case: the count, how many kinds, lengths and bytes of the head there are, and which kind and which length is replaced by what; 99 is none.
 type Writing = [u64; 8];
@@ -28,7 +29,8 @@ fn set_numbers(lengths: bool, e: u64, v: u64, list: &mut [u64]) {
 }
 
 fn call(n: u64, kinds: &[u64], lengths: &[u64], head: &mut [u8]) {
-    test_print::outcome(b" ", archive::write(n, kinds, lengths, head));
+    let answer: Answer = archive::write(n, kinds, lengths, head);
+    test_print::outcome(b" ", answer);
     test_print::digest(b" head ", head);
     test_print::end();
 }
