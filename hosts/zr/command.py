@@ -312,6 +312,7 @@ def start(words: Sequence[str]) -> NoReturn:
         files.hold_standard()
         if 2 in files.closed:
             sys.stderr = open(os.devnull, "w", encoding="utf-8")  # with none, Python would print answers among the data
+        files.watch_signals()
         for each in files.ENDINGS:
             if signal.getsignal(each) != signal.SIG_IGN:
                 signal.signal(each, ended)

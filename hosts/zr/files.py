@@ -71,13 +71,32 @@ def standard_of(name: str, descriptor: int) -> Optional[int]:
     return meant
 
 
+signalled = -1  # readable once a signal came
+
+
+def watch_signals() -> None:
+    global signalled
+    signalled, told = os.pipe2(os.O_NONBLOCK | os.O_CLOEXEC)
+    signal.set_wakeup_fd(told, warn_on_full_buffer=False)
+
+
+def wait_for(source: int) -> None:
+    """Until there is something to read, or a signal came: one that comes just before a read does not end it, and the read would wait on."""
+    waiting = select.poll()
+    for descriptor in (source, signalled):
+        if descriptor >= 0:
+            waiting.register(descriptor, select.POLLIN)
+    waiting.poll()
+
+
 def read_part(source: int, length: int) -> bytes:
     """Some bytes, or none at the end; it waits where the other side of a pipe has asked not to."""
     while True:
+        wait_for(source)
         try:
             return os.read(source, length)
         except BlockingIOError:
-            select.select([source], [], [])
+            pass
 
 
 def write_all(to: int, data: bytes) -> None:

@@ -283,6 +283,16 @@ class Streams(unittest.TestCase):
         thread.join()
         self.assertEqual(b"".join(taken), data)
 
+    def test_a_signal_ends_the_wait(self):
+        """Also one that came before it: the pipe gives nothing, and without it the wait would not end."""
+        silent, told = os.pipe(), os.pipe()
+        os.write(told[1], b"x")
+        waiter = threading.Thread(target=files.wait_for, args=(silent[0],), daemon=True)
+        with mock.patch.object(files, "signalled", told[0]):
+            waiter.start()
+            waiter.join(10)
+        self.assertFalse(waiter.is_alive())
+
 
 if __name__ == "__main__":
     unittest.main()
