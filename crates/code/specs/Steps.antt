@@ -5,17 +5,13 @@ use mathlib.Core.Path.{_≡_}
 use mathlib.Core.List.{List}
 use lib.Dec.{ltb}
 use lib.ListN.{getD, length}
-use Rattle.bits.specs.Bits.{digit, pack}
+use Rattle.bits.specs.Bits.{digit}
 use Rattle.hamming_matrix.specs.Steps.{tailTable}
 use Rattle.hamming_table.specs.Steps.{byteTable}
-use Rattle.scrambler.specs.Scrambler.{o}
-use Rattle.sizes.specs.Sizes.{crcBits, mbasBits, fecBlocks, elementBits, superElements, superBytes, infoLength, parityLength, captureLength, mostFrames}
+use Rattle.scrambling.specs.Scrambling.{onePeriod}
+use Rattle.sizes.specs.Sizes.{crcBits, mbasBits, fecBlocks, elementBits, superElements, infoLength, parityLength, captureLength, mostFrames}
 use Rattle.line.specs.Fec.{blockCrc}
 use Rattle.line.specs.Frames.{superOf}
-
--- two bit functions agree on the 119 bits of an element
-abbrev pub Agree : (ℕ → ℕ) → (ℕ → ℕ) → Type 0
-Agree f g = (i : ℕ) → i < elementBits → f i ≡ g i
 
 -- bit i of element e before it is scrambled
 unfoldable pub plainBit : (ℕ → ℕ → ℕ) → ℕ → ℕ → ℕ
@@ -48,6 +44,6 @@ pub record Granted (N : ℕ) (info par cap : List ℕ) : Type 0 where
 pub record Ready (N : ℕ) (info par crcs sequence table tails : List ℕ) : Type 0 where
   pub few : N ≤ mostFrames
   pub blocks : Crcs N info crcs
-  pub scrambles : sequence ≡ pack superBytes o
+  pub scrambles : sequence ≡ onePeriod
   pub checks : table ≡ byteTable
   pub closes : tails ≡ tailTable

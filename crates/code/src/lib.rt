@@ -11,8 +11,9 @@ ghost use Rattle.crc.specs.Steps.{entries};
 ghost use Rattle.sizes.specs.Sizes.{infoBytes, fecBlocks, superElements, infoLength, captureLength, words, mostFrames, wordBytes};
 ghost use Rattle.line.specs.Fec.{fecBit, blockCrc};
 ghost use Rattle.line.specs.Words.{wordsOf};
+ghost use Rattle.scrambling.specs.Scrambling.{Agree};
 ghost use Rattle.code.specs.Code.{captureOf, codeRows, codeAnswer, codeLeaves};
-ghost use Rattle.code.specs.Steps.{Agree, plainBit, tailBit, entry, Crcs, Granted, Ready};
+ghost use Rattle.code.specs.Steps.{plainBit, tailBit, entry, Crcs, Granted, Ready};
 
 // Words are written eight at a time.
 const SUPER_GROUPS: usize = sizes::SUPER_ELEMENTS / sizes::GROUP_WORDS;
@@ -63,7 +64,8 @@ fn code_all(n: usize, m0: u64, info: &[u8], parity: &[u8], capture: &mut [u8])
     ensures { λ _. ⌜ now (capture .exit) ≡ captureOf n m0 (now (info .entry)) (now (parity .entry)) ⌝ }
 {
     let crcs = block_crcs(n, info);
-    let sequence = scrambler::sequence();
+    let mut sequence = [0u8; scrambling::PERIOD_BYTES];
+    scrambler::fill(&mut sequence);
     let table = hamming_table::byte_table();
     let tails = hamming_matrix::tail_table();
     write_groups(
@@ -108,7 +110,7 @@ fn write_groups(
     info: &[u8],
     parity: &[u8],
     crcs: &[u32; MOST_BLOCKS],
-    sequence: &[u8],
+    sequence: &[u8; scrambling::PERIOD_BYTES],
     table: &[u16; 4096],
     tails: &[u16; 512],
     capture: &mut [u8],
@@ -133,7 +135,7 @@ fn group(
     info: &[u8],
     parity: &[u8],
     crcs: &[u32; MOST_BLOCKS],
-    sequence: &[u8],
+    sequence: &[u8; scrambling::PERIOD_BYTES],
     table: &[u16; 4096],
     tails: &[u16; 512],
     g: usize,
@@ -165,7 +167,7 @@ fn word(
     info: &[u8],
     parity: &[u8],
     crcs: &[u32; MOST_BLOCKS],
-    sequence: &[u8],
+    sequence: &[u8; scrambling::PERIOD_BYTES],
     table: &[u16; 4096],
     tails: &[u16; 512],
     w: usize,
@@ -178,8 +180,7 @@ fn word(
     }
     let e = line::element_in(w);
     let plain = plain_element(n, m0, info, parity, crcs, e);
-    let mask = bits_copy::word_from(sequence, sizes::ELEMENT_BITS * (e % sizes::SUPER_ELEMENTS));
-    hamming_table::encode_by(table, tails, bits_copy::sum(plain, mask))
+    hamming_table::encode_by(table, tails, scrambling::element(sequence, e, plain))
 }
 
 // Element e before it is scrambled. Only its 119 bits count: those behind them are of whatever follows.

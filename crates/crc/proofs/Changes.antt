@@ -39,8 +39,13 @@ generator-is = refl
 pub crc-rem-ext : (r : ℕ) (f g : ℕ → ℕ) (n : ℕ) → ((i : ℕ) → i < n → f i ≡ g i) → remFrom width poly r f n ≡ remFrom width poly r g n
 crc-rem-ext = any.rem-ext width poly
 
-pub crc-rem-more : {r b x : ℕ} (f : ℕ → ℕ) (n : ℕ) → r ≡ crcRem f n → b ≡ f n → x ≡ crcStep r b → x ≡ crcRem f (n + 1)
+pub crc-rem-more : {r b x : ℕ} (s : ℕ) (f : ℕ → ℕ) (n : ℕ) → r ≡ remFrom width poly s f n → b ≡ f n → x ≡ crcStep r b → x ≡ remFrom width poly s f (n + 1)
 crc-rem-more = any.rem-more width poly
+
+-- a stretch taken in piece by piece: m more bits, which g has from 0 on
+pub crc-rem-piece : {r x : ℕ} (f g : ℕ → ℕ) (n m : ℕ) → r ≡ crcRem f n → ((i : ℕ) → i < m → g i ≡ f (n + i)) → x ≡ remFrom width poly r g m → x ≡ crcRem f (n + m)
+crc-rem-piece f g n m e h q =
+    q ∙ crc-rem-ext _ g (λ i. f (n + i)) m h ∙ ap (λ (r : ℕ). remFrom width poly r (λ i. f (n + i)) m) e ∙ sym (any.rem-add width poly 0 f n m)
 
 pub crc-alone : (d : ℕ → ℕ) (n k m : ℕ) → ((i : ℕ) → i < n → d i ≡ 0) → ((i : ℕ) → i < m → d (n + (k + i)) ≡ 0)
     → crcRem d (n + (k + m)) ≡ crcShiftN m (crcRem (λ i. d (n + i)) k)

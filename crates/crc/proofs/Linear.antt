@@ -48,9 +48,9 @@ module _ (w p : ℕ) where
   rem-ext r f g (suc n) h = ap₂ (step w p) (rem-ext r f g n (λ i l. h i (lt-trans l (lt-suc-self n)))) (h n (lt-suc-self n))
 
   -- a loop that takes in one bit more
-  pub rem-more : {r b x : ℕ} (f : ℕ → ℕ) (n : ℕ) → r ≡ remOf w p f n → b ≡ f n → x ≡ step w p r b → x ≡ remOf w p f (n + 1)
+  pub rem-more : {r b x : ℕ} (s : ℕ) (f : ℕ → ℕ) (n : ℕ) → r ≡ remFrom w p s f n → b ≡ f n → x ≡ step w p r b → x ≡ remFrom w p s f (n + 1)
   unfolding remFrom
-  rem-more f n e q h = rw (h, e, q, add-one)
+  rem-more s f n e q h = rw (h, e, q, add-one)
 
   -- ---- sums
 

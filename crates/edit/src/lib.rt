@@ -5,30 +5,27 @@ ghost use mathlib.Core.Bool.{not};
 ghost use lib.Dec.{eqb};
 ghost use Prim.Native.Nat.{_+_, _*_, _%_, _≤_, _<_};
 ghost use lib.ListN.{length};
-ghost use Rattle.bits.specs.Bits.{bitAt, byteOf, pack};
+ghost use Rattle.prelude.specs.Lists.{fromIndex};
+ghost use Rattle.bits.specs.Bits.{bitAt, pack};
 ghost use Rattle.prelude.specs.Loops.{first};
 ghost use Rattle.answer.specs.Outcomes.{Outcome};
 ghost use Rattle.answer.specs.Rows.{answerOf};
 ghost use Rattle.hamming.specs.Code.{checksOf};
 ghost use Rattle.hamming_table.specs.Steps.{byteTable};
-ghost use Rattle.sizes.specs.Sizes.{blockBits, fecBits, fecBlocks, elementBits, superElements, fecElements, infoElements, captureLength, words, blocksOf};
-ghost use Rattle.sizes.specs.Sizes.{listLength, mostFrames, wordBits, wordBytes};
-ghost use Rattle.line.specs.Slots.{elementIn};
+ghost use Rattle.crc.specs.Remainder.{remFrom};
+ghost use Rattle.crc.specs.Crc.{width, poly};
+ghost use Rattle.scrambling.specs.Scrambling.{Agree, onePeriod};
+ghost use Rattle.sizes.specs.Sizes.{blockBits, fecBits, fecBlocks, elementBits, superElements, fecElements, captureLength, words, blocksOf};
+ghost use Rattle.sizes.specs.Sizes.{parityFrom, listLength, mostFrames, wordBytes};
 ghost use Rattle.line_order.specs.Order.{wordIn};
 ghost use Rattle.line.specs.Words.{fecIn};
-ghost use Rattle.edit_spec.specs.Edit.{fecOf, blockFrom, change, crcChange, elementLocal, touches, listed, fails, clientSpareSet, editEarlyRows, editAnswer};
+ghost use Rattle.edit_spec.specs.Edit.{fecOf, blockFrom, change, crcChange, elementFec, elementLocal, touches, listed, fails, clientSpareSet, editEarlyRows, editAnswer};
 ghost use Rattle.edit_spec.specs.Edit.{editLeaves};
-ghost use Rattle.edit_spec.specs.Steps.{AcceptedEdit, onePeriod, firstElement, stretchFrom, stretchTo, newInfoBit, newBit, newElement, parityElement, remade};
+ghost use Rattle.edit_spec.specs.Steps.{AcceptedEdit, firstElement, stretchFrom, stretchTo, newElement, fieldElement, withField, crcBit, withCrc, remade};
 ghost use Rattle.edit_spec.specs.Steps.{Lent, Passing, WordPassed};
-
-// One period of the scrambler's sequence, and a word's bits more, so that a word can be cut out anywhere.
-const PERIOD_BYTES: usize = 8208;
 
 // The last bit of a client block.
 const BLOCK_LAST: usize = sizes::BLOCK_BITS - 1;
-
-// The bits of information behind an FEC block's first client block.
-const BEHIND_FIRST: usize = sizes::INFO_BITS - sizes::BLOCK_BITS;
 
 // From the first element of an FEC block on, so many words can hold one of its elements.
 const STRETCH: usize = sizes::FEC_ELEMENTS + sizes::LONGEST_WAIT;
@@ -174,200 +171,148 @@ fn first_refused(n: usize, b: usize, capture: &[u8], t: &[u16; 4096]) -> usize
     sizes::SUPER_ELEMENTS * n + sizes::LONGEST_WAIT
 }
 
+// ---- fields of an element, eight bits at a time
+
+// Element e, scrambled, of a field that begins at place a of the FEC block.
+fn field_element(field: &[u8], a: usize, scr: &[u8; scrambling::PERIOD_BYTES], e: usize) -> [u8; 16]
+    requires { ⌜ now scr ≡ onePeriod ⌝ }
+    ensures { λ r. ⌜ r ≡ pack wordBytes (fieldElement a (now (field .entry)) e) ⌝ }
+{
+    let q = sizes::ELEMENT_BITS * (e % sizes::SUPER_ELEMENTS % sizes::FEC_ELEMENTS);
+    scrambling::element(scr, e, bits_place::placed(field, a, q))
+}
+
+// The received word old of element e, with the field in the places a .. z - 1 of the FEC block.
+fn with_field(
+    field: &[u8],
+    a: usize,
+    z: usize,
+    scr: &[u8; scrambling::PERIOD_BYTES],
+    e: usize,
+    old: [u8; 16],
+) -> [u8; 16]
+    requires { ⌜ now scr ≡ onePeriod ⌝ }
+    ensures { λ r. ⌜ r ≡ pack wordBytes (withField a z (now (field .entry)) e old) ⌝ }
+{
+    let q = sizes::ELEMENT_BITS * (e % sizes::SUPER_ELEMENTS % sizes::FEC_ELEMENTS);
+    bits_place::under(a, z, q as u32, field_element(field, a, scr, e), old)
+}
+
+// An element of the information, with client block b.
+fn block_element(
+    b: usize,
+    bits: &[u8],
+    scr: &[u8; scrambling::PERIOD_BYTES],
+    e: usize,
+    old: [u8; 16],
+) -> [u8; 16]
+    requires { ⌜ now scr ≡ onePeriod ⌝ }
+    ensures { λ r. ⌜ r ≡ pack wordBytes (withField (blockFrom b) (blockFrom b + blockBits) (now (bits .entry)) e old) ⌝ }
+{
+    let from = sizes::BLOCK_BITS * (b % sizes::CLIENT_BLOCKS);
+    with_field(bits, from, from + sizes::BLOCK_BITS, scr, e, old)
+}
+
 // ---- the change of the CRC
 
-// The sum of two bits without the carry.
-fn add(x: u8, y: u8) -> u8
-    ensures { λ r. ⌜ r ≡ (x + y) % 2 ⌝ }
+// The 119 bits by which an element of client block b's changes: the scrambler falls out.
+fn changed_element(
+    b: usize,
+    bits: &[u8],
+    capture: &[u8],
+    scr: &[u8; scrambling::PERIOD_BYTES],
+    e: usize,
+) -> [u8; 16]
+    requires { ⌜ (now scr ≡ onePeriod) × (e < superElements * mostFrames) × (e % superElements < fecElements * fecBlocks) × (elementFec e ≡ fecOf b) ⌝ }
+    ensures { λ r. ⌜ Agree (bitAt r) (fromIndex (change b (now (bits .entry)) (fecIn (wordIn (now (capture .entry))) (fecOf b))) (elementBits * elementLocal e)) ⌝ }
 {
-    (x % 2 + y % 2) % 2
+    let old = line_order::word_in(capture, line::slot(e as u32));
+    bits_copy::sum(old, block_element(b, bits, scr, e, old))
 }
 
-// Bit j of word w of a capture.
-fn word_bit(capture: &[u8], w: usize, j: usize) -> u8
-    requires { ⌜ (w < words mostFrames) × (j < wordBits) ⌝ }
-    ensures { λ r. ⌜ r ≡ bitAt (wordIn (now (capture .entry)) w) j ⌝ }
+// The remainder r takes in the 119 bits of an element.
+fn take_element(r: u32, v: [u8; 16]) -> u32
+    ensures { λ x. ⌜ x ≡ remFrom width poly r (bitAt v) elementBits ⌝ }
 {
-    bits::bit_at(
-        capture,
-        8 * line_order::place(w as u32, (j / 8) as u32) + j % 8,
-    )
+    let mut x = r;
+    for i in 0..sizes::ELEMENT_BITS {
+        x = crc::take(x, bits::bit_at(&v, i));
+    }
+    x
 }
 
-// Bit i of FEC block t of a capture, descrambled.
-fn received_bit(capture: &[u8], scr: &[u8; PERIOD_BYTES], t: usize, i: usize) -> u8
-    requires { ⌜ (now scr ≡ onePeriod) × (t < fecBlocks * 8) × (i < fecBits) ⌝ }
-    ensures { λ r. ⌜ r ≡ fecIn (wordIn (now (capture .entry))) t i ⌝ }
-{
-    let k = sizes::FEC_BITS * (t % sizes::FEC_BLOCKS) + i;
-    let w = line::slot(
-        (sizes::SUPER_ELEMENTS * (t / sizes::FEC_BLOCKS) + k / sizes::ELEMENT_BITS) as u32,
-    );
-    add(
-        word_bit(capture, w, k % sizes::ELEMENT_BITS),
-        bits::bit_at(scr, k % scrambler::PERIOD),
-    )
-}
-
-// Bit j of client block b's change: what was received, and what replaces it.
-fn changed_bit(b: usize, bits: &[u8], capture: &[u8], scr: &[u8; PERIOD_BYTES], j: usize) -> u8
-    requires { ⌜ (now scr ≡ onePeriod) × (b < blocksOf mostFrames) × (j < blockBits) ⌝ }
-    ensures { λ r. ⌜ r ≡ change b (now (bits .entry)) (fecIn (wordIn (now (capture .entry))) (fecOf b)) (blockFrom b + j) ⌝ }
-{
-    add(
-        received_bit(
-            capture,
-            scr,
-            b / sizes::CLIENT_BLOCKS,
-            sizes::BLOCK_BITS * (b % sizes::CLIENT_BLOCKS) + j,
-        ),
-        bits::bit_at(bits, j),
-    )
-}
-
-// What the changed bits leave: the change of the CRC. Before the block nothing changes, and what follows it only shifts.
-fn crc_change(b: usize, bits: &[u8], capture: &[u8], scr: &[u8; PERIOD_BYTES]) -> u32
+// What the changed bits leave: the change of the CRC. In the elements that hold the block nothing else changes; what follows them only shifts.
+fn crc_change(b: usize, bits: &[u8], capture: &[u8], scr: &[u8; scrambling::PERIOD_BYTES]) -> u32
     requires { ⌜ (now scr ≡ onePeriod) × (b < blocksOf mostFrames) ⌝ }
     ensures { λ r. ⌜ r ≡ crcChange b (now (bits .entry)) (fecIn (wordIn (now (capture .entry))) (fecOf b)) ⌝ }
 {
+    let from = sizes::BLOCK_BITS * (b % sizes::CLIENT_BLOCKS);
+    let end = (from + BLOCK_LAST) / sizes::ELEMENT_BITS + 1;
     let mut r: u32 = 0;
-    for j in 0..sizes::BLOCK_BITS {
-        r = crc::take(r, changed_bit(b, bits, capture, scr, j));
+    for m in from / sizes::ELEMENT_BITS..end {
+        r = take_element(
+            r,
+            changed_element(b, bits, capture, scr, first_element(b) + m),
+        );
     }
-    crc::shifted(
-        r,
-        (BEHIND_FIRST - sizes::BLOCK_BITS * (b % sizes::CLIENT_BLOCKS)) as u64,
-    )
+    crc::shifted(r, (sizes::INFO_BITS - sizes::ELEMENT_BITS * end) as u64)
 }
 
 // ---- a word made anew
 
-// The new bit at place p of the information and place k of the super frame, where `kept` was received.
-fn new_info_bit(b: usize, bits: &[u8], scr: &[u8; PERIOD_BYTES], p: usize, k: usize, kept: u8) -> u8
-    requires { ⌜ now scr ≡ onePeriod ⌝ }
-    ensures { λ r. ⌜ r ≡ newInfoBit b (now (bits .entry)) p k kept ⌝ }
-{
-    let from = sizes::BLOCK_BITS * (b % sizes::CLIENT_BLOCKS);
-    if p < from {
-        return kept;
-    }
-    if from + sizes::BLOCK_BITS <= p {
-        return kept;
-    }
-    add(
-        bits::bit_at(bits, p - from),
-        bits::bit_at(scr, k % scrambler::PERIOD),
-    )
-}
-
-// The same anywhere in the FEC block: the MBAS stays, and the parity is replaced.
-fn new_bit(
-    b: usize,
-    bits: &[u8],
-    parity: &[u8],
-    scr: &[u8; PERIOD_BYTES],
-    crc: u32,
-    p: usize,
-    k: usize,
-    x: u8,
-) -> u8
-    requires { ⌜ now scr ≡ onePeriod ⌝ }
-    ensures { λ r. ⌜ r ≡ newBit b (now (bits .entry)) (now (parity .entry)) crc p k x ⌝ }
-{
-    if p < sizes::INFO_BITS {
-        return new_info_bit(b, bits, scr, p, k, x);
-    }
-    if p < sizes::MBAS_FROM {
-        return add(x, ((crc >> (31 - (p - sizes::INFO_BITS))) % 2) as u8);
-    }
-    if p < sizes::PARITY_FROM {
-        return x;
-    }
-    add(
-        bits::bit_at(parity, p - sizes::PARITY_FROM),
-        bits::bit_at(scr, k % scrambler::PERIOD),
-    )
-}
-
-// Bit i of element e made anew, where old was received.
-fn new_element_bit(
-    b: usize,
-    bits: &[u8],
-    parity: &[u8],
-    scr: &[u8; PERIOD_BYTES],
-    crc: u32,
-    e: usize,
-    old: &[u8],
-    i: usize,
-) -> u8
-    requires { ⌜ (now scr ≡ onePeriod) × (e % superElements < fecElements * fecBlocks) × (i < wordBits) ⌝ }
-    ensures { λ r. ⌜ r ≡ newElement b (now (bits .entry)) (now (parity .entry)) crc e (now (old .entry)) i ⌝ }
-{
-    let l = e % sizes::SUPER_ELEMENTS;
-    new_bit(
-        b,
-        bits,
-        parity,
-        scr,
-        crc,
-        sizes::ELEMENT_BITS * (l % sizes::FEC_ELEMENTS) + i,
-        sizes::ELEMENT_BITS * l + i,
-        bits::bit_at(old, i),
-    )
-}
-
-// Byte j of it.
-fn new_byte(
-    b: usize,
-    bits: &[u8],
-    parity: &[u8],
-    scr: &[u8; PERIOD_BYTES],
-    crc: u32,
-    e: usize,
-    old: &[u8],
-    j: usize,
-) -> u8
-    requires { ⌜ (now scr ≡ onePeriod) × (e % superElements < fecElements * fecBlocks) × (j < wordBytes) ⌝ }
-    ensures { λ r. ⌜ r ≡ byteOf (newElement b (now (bits .entry)) (now (parity .entry)) crc e (now (old .entry))) j ⌝ }
-{
-    let mut acc: u32 = 0;
-    for a in 0..8usize {
-        acc = acc * 2 + bits::wide(new_element_bit(b, bits, parity, scr, crc, e, old, 8 * j + a));
-    }
-    acc as u8
-}
-
-// The element, bit by bit: for the few elements that are not all parity.
-fn new_element(
-    b: usize,
-    bits: &[u8],
-    parity: &[u8],
-    scr: &[u8; PERIOD_BYTES],
-    crc: u32,
-    e: usize,
-    old: &[u8],
-) -> [u8; 16]
-    requires { ⌜ (now scr ≡ onePeriod) × (e % superElements < fecElements * fecBlocks) ⌝ }
-    ensures { λ r. ⌜ r ≡ pack wordBytes (newElement b (now (bits .entry)) (now (parity .entry)) crc e (now (old .entry))) ⌝ }
+// The CRC's change at the head of a word, and zeros.
+fn crc_word(crc: u32) -> [u8; 16]
+    ensures { λ r. ⌜ r ≡ pack wordBytes (crcBit crc) ⌝ }
 {
     let mut r = [0u8; 16];
-    for j in 0..sizes::WORD_BYTES {
-        r[j] = new_byte(b, bits, parity, scr, crc, e, old, j);
+    for k in 0..4usize {
+        r[k] = ((crc >> (24 - 8 * k)) % 256) as u8;
     }
     r
 }
 
-// An element that is all parity, in one piece.
-fn parity_element(parity: &[u8], scr: &[u8; PERIOD_BYTES], e: usize) -> [u8; 16]
-    requires { ⌜ (now scr ≡ onePeriod) × (e % superElements < fecElements * fecBlocks) × (infoElements < elementLocal e) ⌝ }
-    ensures { λ r. ⌜ r ≡ pack wordBytes (parityElement (now (parity .entry)) e) ⌝ }
+// The element of CRC and MBAS: the CRC changes, the MBAS stays, and the parity begins.
+fn tail_element(
+    parity: &[u8],
+    scr: &[u8; scrambling::PERIOD_BYTES],
+    crc: u32,
+    e: usize,
+    old: [u8; 16],
+) -> [u8; 16]
+    requires { ⌜ now scr ≡ onePeriod ⌝ }
+    ensures { λ r. ⌜ r ≡ pack wordBytes (withField parityFrom fecBits (now (parity .entry)) e (withCrc crc old)) ⌝ }
 {
-    let l = e % sizes::SUPER_ELEMENTS;
-    let at = sizes::ELEMENT_BITS * (l % sizes::FEC_ELEMENTS) - sizes::PARITY_FROM;
-    bits_copy::sum(
-        bits_copy::word_from(parity, at),
-        bits_copy::word_from(scr, sizes::ELEMENT_BITS * l % scrambler::PERIOD),
+    with_field(
+        parity,
+        sizes::PARITY_FROM,
+        sizes::FEC_BITS,
+        scr,
+        e,
+        bits_copy::sum(old, crc_word(crc)),
     )
+}
+
+// Element e made anew, where old was received: one of the information, that of CRC and MBAS, or one that is all parity.
+fn new_element(
+    b: usize,
+    bits: &[u8],
+    parity: &[u8],
+    scr: &[u8; scrambling::PERIOD_BYTES],
+    crc: u32,
+    e: usize,
+    old: [u8; 16],
+) -> [u8; 16]
+    requires { ⌜ now scr ≡ onePeriod ⌝ }
+    ensures { λ r. ⌜ Agree (bitAt r) (newElement b (now (bits .entry)) (now (parity .entry)) crc e old) ⌝ }
+{
+    let m = e % sizes::SUPER_ELEMENTS % sizes::FEC_ELEMENTS;
+    if m < sizes::INFO_ELEMENTS {
+        return block_element(b, bits, scr, e, old);
+    }
+    if m == sizes::INFO_ELEMENTS {
+        return tail_element(parity, scr, crc, e, old);
+    }
+    field_element(parity, sizes::PARITY_FROM, scr, e)
 }
 
 // Word w made anew, where old was received.
@@ -375,21 +320,18 @@ fn new_word(
     b: usize,
     bits: &[u8],
     parity: &[u8],
-    scr: &[u8; PERIOD_BYTES],
+    scr: &[u8; scrambling::PERIOD_BYTES],
     t: &[u16; 4096],
     tails: &[u16; 512],
     crc: u32,
     w: usize,
     old: [u8; 16],
 ) -> [u8; 16]
-    requires { ⌜ (Lent (now scr) (now t) (now tails)) × (elementIn w % superElements < fecElements * fecBlocks) ⌝ }
+    requires { ⌜ Lent (now scr) (now t) (now tails) ⌝ }
     ensures { λ r. ⌜ r ≡ remade b (now (bits .entry)) (now (parity .entry)) crc w old ⌝ }
 {
     let e = line::element_in(w);
-    if sizes::INFO_ELEMENTS < e % sizes::SUPER_ELEMENTS % sizes::FEC_ELEMENTS {
-        return hamming_table::encode_by(t, tails, parity_element(parity, scr, e));
-    }
-    hamming_table::encode_by(t, tails, new_element(b, bits, parity, scr, crc, e, &old))
+    hamming_table::encode_by(t, tails, new_element(b, bits, parity, scr, crc, e, old))
 }
 
 // ---- the pass
@@ -400,7 +342,7 @@ fn pass_word(
     b: usize,
     bits: &[u8],
     parity: &[u8],
-    scr: &[u8; PERIOD_BYTES],
+    scr: &[u8; scrambling::PERIOD_BYTES],
     t: &[u16; 4096],
     tails: &[u16; 512],
     crc: u32,
@@ -430,7 +372,7 @@ fn rewrite(
     b: usize,
     bits: &[u8],
     parity: &[u8],
-    scr: &[u8; PERIOD_BYTES],
+    scr: &[u8; scrambling::PERIOD_BYTES],
     t: &[u16; 4096],
     tails: &[u16; 512],
     crc: u32,
@@ -464,7 +406,7 @@ fn replace(
     ensures { λ r. ⌜ Passing n b (now (bits .entry)) (now (parity .entry)) (now (capture .entry)) (now (list .entry)) (words n) (now (capture .exit))
         (now (list .exit)) r ⌝ }
 {
-    let mut scr = [0u8; PERIOD_BYTES];
+    let mut scr = [0u8; scrambling::PERIOD_BYTES];
     scrambler::fill(&mut scr);
     let tails = hamming_matrix::tail_table();
     let crc = crc_change(b, bits, capture, &scr);

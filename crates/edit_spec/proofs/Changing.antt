@@ -1,44 +1,21 @@
 -- The bits that an edit reads, the bits that change, and what they leave: the change of the CRC. Assumes nothing.
-use Prim.Native.Nat.{ℕ, _+_, _-_, _*_, _/_, _%_, _<_}
+use Prim.Native.Nat.{ℕ, _+_, _-_, _*_, _/_, _%_, _≤_, _<_}
 use mathlib.Core.Bool.{false}
 use mathlib.Core.Path.{_≡_, sym, ap, _∙_}
 use mathlib.Core.List.{List}
-use native.Mathlib.Nat.{add-zero}
 use native.Mathlib.Omega.{arith}
-use Rattle.bits.specs.Bits.{digit, bitOf, bitAt, Bits}
-use Rattle.bits.proofs.Packing.{bitOf-at, bitOf-packs}
+use Rattle.bits.specs.Bits.{bitAt, Bits}
 use Rattle.crc.specs.Crc.{crcRem, crcShiftN}
 use Rattle.crc.proofs.Changes.{crc-alone}
 use Rattle.scrambler.specs.Scrambler.{o}
-use Rattle.scrambler.proofs.Rule.{o-lt}
-use Rattle.scrambler.proofs.Period.{within-period}
-use Rattle.sizes.specs.Sizes.{blockBits, infoBits, fecBits, fecBlocks, elementBits, superElements, fecElements, wordBits}
+use Rattle.sizes.specs.Sizes.{blockBits, infoBits, fecBits, fecBlocks, elementBits, superElements, fecElements}
 use Rattle.line.specs.Frames.{superFrom, fecFrom}
 use Rattle.line.specs.Slots.{slotOf}
-use Rattle.line_order.specs.Order.{symbolPlace, wordIn}
 use Rattle.line.specs.Words.{elementFrom, superIn, fecIn}
-use Rattle.line_order.proofs.OrderLaws.{word-symbol}
 use Rattle.edit_spec.specs.Edit.{blockFrom, inBlock, replaced, change, crcChange, elementFec, elementLocal}
-use Rattle.edit_spec.specs.Steps.{periodBytes, onePeriod}
-use Rattle.scrambler.specs.Steps.{period}
-use Rattle.edit_spec.proofs.Touching.{block-in, block-before, block-past}
+use Rattle.edit_spec.proofs.Touching.{block-before, block-past}
 
 -- ---- what is read
-
--- the sequence, from the one period that was made: bit k, and the bits from there on
-pub sequence-from : (scr : List ℕ) (k i : ℕ) → scr ≡ onePeriod → i < wordBits → bitAt scr (k % period + i) ≡ o (k + i)
-sequence-from scr k i e h =
-    ap (λ (s : List ℕ). bitAt s (k % period + i)) e ∙ bitOf-packs 8 periodBytes o (k % period + i) o-lt (omega arith) ∙ within-period k i
-
-pub sequence-bit : (scr : List ℕ) (k : ℕ) → scr ≡ onePeriod → bitAt scr (k % period) ≡ o k
-sequence-bit scr k e = ap (bitAt scr) (sym (add-zero (k % period))) ∙ sequence-from scr k 0 e (omega arith) ∙ ap o (add-zero k)
-
--- bit j of word w, from the capture
-pub word-bit : (cap : List ℕ) (w j : ℕ) → j < wordBits → bitAt cap (8 * symbolPlace w (j / 8) + j % 8) ≡ bitAt (wordIn cap w) j
-unfolding bitOf
-word-bit cap w j h =
-    bitOf-at 8 cap (symbolPlace w (j / 8)) (j % 8) (omega arith)
-    ∙ ap (λ (x : ℕ). digit 8 x (j % 8)) (sym (word-symbol cap w (j / 8) (omega arith)))
 
 -- bit i of FEC block t, from the word that holds it and the sequence
 pub received : (W : ℕ → List ℕ) (t i k e : ℕ) → k ≡ fecBits * (t % fecBlocks) + i → e ≡ superElements * (t / fecBlocks) + k / elementBits
@@ -67,24 +44,17 @@ pub change-out : (b : ℕ) (bits : List ℕ) (f : ℕ → ℕ) (i : ℕ) → inB
 unfolding change replaced
 change-out b bits f i h = rw h (same-twice (f i))
 
--- bit j of the block
-pub change-at : (b : ℕ) (bits : List ℕ) (f : ℕ → ℕ) (j : ℕ) → j < blockBits → change b bits f (blockFrom b + j) ≡ (f (blockFrom b + j) + bitAt bits j) % 2
-unfolding change replaced
-change-at b bits f j h =
-    let e : blockFrom b + j - blockFrom b ≡ j = omega arith in
-    rw (block-in b (blockFrom b + j) (omega arith) (omega arith), e)
-
 pub change-bits : (b : ℕ) (bits : List ℕ) (f : ℕ → ℕ) → Bits (change b bits f)
 unfolding change
 change-bits b bits f i = omega arith
 
 -- ---- what they leave
 
--- THE CHANGE OF THE CRC: what the block's own changed bits leave, shifted by what follows them
-pub crc-changes : (b : ℕ) (bits : List ℕ) (f : ℕ → ℕ) (m : ℕ) → blockFrom b + (blockBits + m) ≡ infoBits
-    → crcShiftN m (crcRem (λ i. change b bits f (blockFrom b + i)) blockBits) ≡ crcChange b bits f
+-- THE CHANGE OF THE CRC: what any stretch leaves that has the block within it, shifted by what follows it
+pub crc-changes : (b : ℕ) (bits : List ℕ) (f : ℕ → ℕ) (p n m : ℕ) → p ≤ blockFrom b → blockFrom b + blockBits ≤ p + n → p + (n + m) ≡ infoBits
+    → crcShiftN m (crcRem (λ i. change b bits f (p + i)) n) ≡ crcChange b bits f
 unfolding crcChange
-crc-changes b bits f m e =
+crc-changes b bits f p n m h l e =
     sym (ap (crcRem (change b bits f)) (sym e)
-    ∙ crc-alone (change b bits f) (blockFrom b) blockBits m (λ i l. change-out b bits f i (block-before b i l))
-    (λ i l. change-out b bits f (blockFrom b + (blockBits + i)) (block-past b (blockFrom b + (blockBits + i)) (omega arith))))
+    ∙ crc-alone (change b bits f) p n m (λ i k. change-out b bits f i (block-before b i (omega arith)))
+    (λ i k. change-out b bits f (p + (n + i)) (block-past b (p + (n + i)) (omega arith))))

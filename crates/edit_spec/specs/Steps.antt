@@ -4,15 +4,18 @@ use mathlib.Core.Bool.{false, cond}
 use mathlib.Core.Path.{_≡_}
 use mathlib.Core.List.{List, _++_}
 use lib.ListN.{length, set, drop}
-use Rattle.bits.specs.Bits.{digit, bitAt, pack}
+use lib.Dec.{ltb}
+use Rattle.bits.specs.Bits.{digit, bitAt, pack, added}
+use Rattle.bits_place.specs.Masks.{placedAt, masked}
 use Rattle.prelude.specs.Loops.{count}
 use Rattle.scrambler.specs.Scrambler.{o}
+use Rattle.scrambling.specs.Scrambling.{onePeriod, framePlace}
 use Rattle.hamming.specs.Code.{coded}
 use Rattle.hamming_matrix.specs.Steps.{tailTable}
 use Rattle.line_order.specs.Steps.{doneTo, putWord}
 use Rattle.hamming_table.specs.Steps.{byteTable}
-use Rattle.sizes.specs.Sizes.{crcBits, parityFrom, parityBytes, fecBlocks, elementBits, superElements, fecElements, captureLength, longestWait, blocksOf}
-use Rattle.sizes.specs.Sizes.{blockBytes, listLength, mostFrames}
+use Rattle.sizes.specs.Sizes.{crcBits, parityBytes, fecBlocks, elementBits, superElements, fecElements, captureLength, longestWait, blocksOf}
+use Rattle.sizes.specs.Sizes.{blockBytes, listLength, mostFrames, wordBytes}
 use Rattle.line.specs.Fec.{fields}
 use Rattle.line.specs.Slots.{elementIn}
 use Rattle.line_order.specs.Order.{laid, wordIn}
@@ -58,21 +61,28 @@ unfoldable pub newElement : ℕ → List ℕ → List ℕ → ℕ → ℕ → Li
 newElement b bits parity crc e old i =
     newBit b bits parity crc (elementBits * elementLocal e + i) (elementBits * (e % superElements) + i) (bitAt old i)
 
--- bit i of element e where the element is all parity
-unfoldable pub parityElement : List ℕ → ℕ → ℕ → ℕ
-parityElement parity e i = (bitAt parity (elementBits * elementLocal e - parityFrom + i) + o (elementBits * (e % superElements) + i)) % 2
+-- ---- the same as the code makes it, eight bits at a time
+
+-- bit i of element e, scrambled, of a field that begins at place a of the FEC block
+unfoldable pub fieldElement : ℕ → List ℕ → ℕ → ℕ → ℕ
+fieldElement a field e i = (placedAt a (elementBits * elementLocal e) (bitAt field) i + o (framePlace e + i)) % 2
+
+-- the received word old, with that field in the places a .. z - 1 of the FEC block
+abbrev pub withField : ℕ → ℕ → List ℕ → ℕ → List ℕ → ℕ → ℕ
+withField a z field e old = masked a z (elementBits * elementLocal e) (fieldElement a field e) (bitAt old)
+
+-- the CRC's change at the head of a word, and the received word with it
+unfoldable pub crcBit : ℕ → ℕ → ℕ
+crcBit crc i = cond (ltb i crcBits) (digit crcBits crc i) 0
+
+abbrev pub withCrc : ℕ → List ℕ → List ℕ
+withCrc crc old = pack wordBytes (added (bitAt old) (crcBit crc))
 
 -- word w, check bits and all
 unfoldable pub remade : ℕ → List ℕ → List ℕ → ℕ → ℕ → List ℕ → List ℕ
 remade b bits parity crc w old = coded (newElement b bits parity crc (elementIn w) old)
 
--- ---- what is made once and lent: one period of the scrambler's sequence, and a word's bits more; and the code's two tables
-
-abbrev pub periodBytes : ℕ
-periodBytes = 8208
-
-abbrev pub onePeriod : List ℕ
-onePeriod = pack periodBytes o
+-- ---- what is made once and lent: one period of the scrambler's sequence, and the code's two tables
 
 pub record Lent (scr t tails : List ℕ) : Type 0 where
   pub sequence : scr ≡ onePeriod

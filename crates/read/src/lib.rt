@@ -8,7 +8,7 @@ ghost use mathlib.Core.Path.{_≡_};
 ghost use Prim.Native.Nat.{_+_, _*_, _^_, _<_, _≤_};
 ghost use lib.Dec.{eqb};
 ghost use lib.ListN.{length};
-ghost use Rattle.prelude.specs.Lists.{tabulate, fromIndex};
+ghost use Rattle.prelude.specs.Lists.{fromIndex};
 ghost use Rattle.bits.specs.Bits.{num, bitAt, pack};
 ghost use Rattle.prelude.specs.Loops.{upto};
 ghost use Rattle.answer.specs.Outcomes.{Outcome};
@@ -18,13 +18,14 @@ ghost use Rattle.hamming.specs.Code.{checksOf};
 ghost use Rattle.hamming_matrix.specs.Steps.{positionTable};
 ghost use Rattle.hamming_table.specs.Steps.{byteTable};
 ghost use Rattle.hamming.specs.Repair.{repairOf};
-ghost use Rattle.sizes.specs.Sizes.{infoBits, fecBits, fecBlocks, superBytes, infoLength, parityLength, words, mostFrames, wordBytes};
+ghost use Rattle.scrambling.specs.Scrambling.{onePeriod};
+ghost use Rattle.sizes.specs.Sizes.{infoBits, fecBits, fecBlocks, superBytes, infoLength, parityLength, words, mostFrames};
 ghost use Rattle.line.specs.Frames.{infoOf, parityOf};
 ghost use Rattle.line.specs.Slots.{slotOf, holds};
 ghost use Rattle.line_order.specs.Order.{wordIn};
 ghost use Rattle.line.specs.Words.{fecIn};
 ghost use Rattle.read_spec.specs.Read.{repaired, allZero, readAnswer, readLeaves};
-ghost use Rattle.read_spec.specs.Steps.{AcceptedRead, OneIf, Tables, sequence, soughtOf, wordsTo, frameOf, followed, plainByte, mbasOff, crcOff, padOff};
+ghost use Rattle.read_spec.specs.Steps.{AcceptedRead, OneIf, Tables, soughtOf, wordsTo, frameOf, followed, plainWord, mbasOff, crcOff, padOff};
 ghost use Rattle.read_spec.specs.Steps.{blockTaken, framesTo, infoIn, parityIn, lateAnswer, lateLeaves};
 
 // The pad in whole bytes.
@@ -58,7 +59,8 @@ fn read_accepted(n: usize, m0: u64, capture: &[u8], info: &mut [u8], parity: &mu
 {
     let t = hamming_table::byte_table();
     let positions = hamming_matrix::position_table();
-    let scr = scrambler::sequence();
+    let mut scr = [0u8; scrambling::PERIOD_BYTES];
+    scrambler::fill(&mut scr);
     let mut buffer = blank();
     read_by(
         &t,
@@ -82,7 +84,7 @@ fn blank() -> [u8; sizes::SUPER_BYTES] {
 fn read_by(
     t: &[u16; 4096],
     positions: &[u8; 512],
-    scr: &[u8],
+    scr: &[u8; scrambling::PERIOD_BYTES],
     n: usize,
     m0: u64,
     capture: &[u8],
@@ -90,7 +92,7 @@ fn read_by(
     info: &mut [u8],
     parity: &mut [u8],
 ) -> Answer
-    requires { ⌜ Tables (now t) (now positions) × (now scr ≡ sequence) × (length (now buffer) ≡ superBytes)
+    requires { ⌜ Tables (now t) (now positions) × (now scr ≡ onePeriod) × (length (now buffer) ≡ superBytes)
         × AcceptedRead n (now capture) (now info) (now parity) ⌝ }
     ensures { λ r. ⌜ Outcome (lateAnswer n m0 (now (capture .entry))) (lateLeaves n m0 (now (capture .entry)) (now (info .entry)) (now (parity .entry))) r
         (now (info .exit), now (parity .exit)) ⌝ }
@@ -231,6 +233,20 @@ fn element(t: &[u16; 4096], positions: &[u8; 512], capture: &[u8], e: usize) -> 
     r.word
 }
 
+// The same, descrambled.
+fn plain_word(
+    t: &[u16; 4096],
+    positions: &[u8; 512],
+    scr: &[u8; scrambling::PERIOD_BYTES],
+    capture: &[u8],
+    e: usize,
+) -> [u8; 16]
+    requires { ⌜ Tables (now t) (now positions) × (now scr ≡ onePeriod) × (e < 2 ^ 32) ⌝ }
+    ensures { λ r. ⌜ r ≡ plainWord (repaired (now (capture .entry))) e ⌝ }
+{
+    scrambling::element(scr, e, element(t, positions, capture, e))
+}
+
 // The 119 bits of a, and then the first nine of b in place of the check bits: no byte of a super frame reaches further.
 fn follow(a: [u8; 16], b: [u8; 16]) -> [u8; 16]
     ensures { λ r. ⌜ r ≡ followed a b ⌝ }
@@ -239,48 +255,26 @@ fn follow(a: [u8; 16], b: [u8; 16]) -> [u8; 16]
     hamming::join(a, p as u16)
 }
 
-// The bits of v from bit i on, and zeros: with a byte behind them none has to be tested.
-fn from_bit(v: [u8; 16], i: usize) -> [u8; 16]
-    requires { ⌜ i < 8 ⌝ }
-    ensures { λ r. ⌜ r ≡ pack wordBytes (fromIndex (bitAt v) i) ⌝ }
-{
-    let mut w = [0u8; 17];
-    for k in 0..sizes::WORD_BYTES {
-        w[k] = v[k];
-    }
-    bits_copy::word_from(&w, i)
-}
-
-// The bytes from bit i of v on, the scrambler's bytes added.
-fn put_bytes(v: [u8; 16], i: usize, scr: &[u8], out: &mut [u8])
-    requires { ⌜ (i < 8) × (length (now scr) ≡ length (now out)) × (length (now out) ≤ 15) ⌝ }
-    ensures { λ _. ⌜ now (out .exit) ≡ tabulate (length (now (out .entry))) (plainByte v i (now (scr .entry))) ⌝ }
-{
-    let x = from_bit(v, i);
-    for k in 0..out.len() {
-        out[k] = x[k] ^ scr[k];
-    }
-}
-
 // The bytes of super frame f, descrambled. Element l has 119 bits: it begins l mod 8 bits before its first whole byte.
 fn frame(
     t: &[u16; 4096],
     positions: &[u8; 512],
-    scr: &[u8],
+    scr: &[u8; scrambling::PERIOD_BYTES],
     capture: &[u8],
     f: usize,
     out: &mut [u8],
 )
-    requires { ⌜ Tables (now t) (now positions) × (now scr ≡ sequence) × (f < 8) × (length (now out) ≡ superBytes) ⌝ }
+    requires { ⌜ Tables (now t) (now positions) × (now scr ≡ onePeriod) × (f < 8) × (length (now out) ≡ superBytes) ⌝ }
     ensures { λ _. ⌜ now (out .exit) ≡ frameOf (now (capture .entry)) f ⌝ }
 {
-    let mut here = element(t, positions, capture, sizes::SUPER_ELEMENTS * f);
+    let first = sizes::SUPER_ELEMENTS * f;
+    let mut here = plain_word(t, positions, scr, capture, first);
     for l in 0..sizes::SUPER_ELEMENTS {
-        let next = element(t, positions, capture, sizes::SUPER_ELEMENTS * f + (l + 1));
+        let next = plain_word(t, positions, scr, capture, first + (l + 1));
         let a = 15 * l - l / 8;
         let e = 15 * (l + 1) - (l + 1) / 8;
         let v = follow(here, next);
-        put_bytes(v, l % 8, &scr[a..e], &mut out[a..e]);
+        bits_copy::copy(&v, l % 8, &mut out[a..e]);
         here = next;
     }
 }
@@ -363,7 +357,7 @@ fn take_blocks(crcs: &[u32; 256], m0: u64, s: &[u8], f: usize, x: BlockTally) ->
 fn take_frame(
     t: &[u16; 4096],
     positions: &[u8; 512],
-    scr: &[u8],
+    scr: &[u8; scrambling::PERIOD_BYTES],
     crcs: &[u32; 256],
     m0: u64,
     capture: &[u8],
@@ -371,7 +365,7 @@ fn take_frame(
     x: BlockTally,
     buffer: &mut [u8],
 ) -> BlockTally
-    requires { ⌜ Tables (now t) (now positions) × (now scr ≡ sequence) × (now crcs ≡ entries) × (f < 8) × (length (now buffer) ≡ superBytes)
+    requires { ⌜ Tables (now t) (now positions) × (now scr ≡ onePeriod) × (now crcs ≡ entries) × (f < 8) × (length (now buffer) ≡ superBytes)
         × (x ≡ framesTo m0 (now capture) f) ⌝ }
     ensures { λ r. ⌜ r ≡ framesTo m0 (now (capture .entry)) (f + 1) ⌝ }
 {
@@ -388,13 +382,13 @@ fn take_frame(
 fn tally_frames(
     t: &[u16; 4096],
     positions: &[u8; 512],
-    scr: &[u8],
+    scr: &[u8; scrambling::PERIOD_BYTES],
     n: usize,
     m0: u64,
     capture: &[u8],
     buffer: &mut [u8],
 ) -> BlockTally
-    requires { ⌜ Tables (now t) (now positions) × (now scr ≡ sequence) × (n ≤ mostFrames) × (length (now buffer) ≡ superBytes) ⌝ }
+    requires { ⌜ Tables (now t) (now positions) × (now scr ≡ onePeriod) × (n ≤ mostFrames) × (length (now buffer) ≡ superBytes) ⌝ }
     ensures { λ r. ⌜ r ≡ framesTo m0 (now (capture .entry)) n ⌝ }
 {
     let crcs = crc::table();
@@ -433,14 +427,14 @@ fn write_blocks(s: &[u8], info: &mut [u8], parity: &mut [u8])
 fn write_frames(
     t: &[u16; 4096],
     positions: &[u8; 512],
-    scr: &[u8],
+    scr: &[u8; scrambling::PERIOD_BYTES],
     n: usize,
     capture: &[u8],
     buffer: &mut [u8],
     info: &mut [u8],
     parity: &mut [u8],
 )
-    requires { ⌜ Tables (now t) (now positions) × (now scr ≡ sequence) × (n ≤ mostFrames) × (length (now buffer) ≡ superBytes)
+    requires { ⌜ Tables (now t) (now positions) × (now scr ≡ onePeriod) × (n ≤ mostFrames) × (length (now buffer) ≡ superBytes)
         × (length (now info) ≡ infoLength n) × (length (now parity) ≡ parityLength n) ⌝ }
     ensures { λ _. ⌜ (now (info .exit) ≡ infoOf n (fecIn (repaired (now (capture .entry)))))
         × (now (parity .exit) ≡ parityOf n (fecIn (repaired (now (capture .entry))))) ⌝ }

@@ -4,28 +4,25 @@ use mathlib.Core.Path.{_≡_, sym, ap, ap₂, _∙_}
 use mathlib.Core.List.{List}
 use native.Mathlib.Nat.{zero-add}
 use native.Mathlib.Omega.{arith}
-use lib.Bits.{bitXor}
 use borrow.Rule.Slice.PartMut.{putMid}
-use lib.ListN.{length, getD, take, drop}
-use lib.Seq.{getD-take, getD-drop}
+use lib.ListN.{length}
 use Rattle.prelude.specs.Lists.{tabulate, fromIndex}
-use Rattle.bits.specs.Bits.{num, bitAt, byteOf, added, Bits}
+use Rattle.bits.specs.Bits.{num, bitAt, byteOf, Bits}
 use Rattle.prelude.proofs.Common.{by-bound}
-use Rattle.prelude.proofs.Lists.{getD-tabulate, tabulate-ext, Filled, filled-block}
+use Rattle.prelude.proofs.Lists.{tabulate-ext, Filled, filled-block}
 use Rattle.bits.proofs.Numbers.{num-ext, digit-num}
 use Rattle.bits.proofs.Packing.{bitOf-lt, bitOf-packs}
-use Rattle.bits.proofs.Xor.{num-xor}
 use Rattle.scrambler.specs.Scrambler.{o}
-use Rattle.scrambler.proofs.Rule.{o-lt}
+use Rattle.scrambling.specs.Scrambling.{framePlace}
 use Rattle.hamming.specs.Code.{joined}
 use Rattle.hamming.proofs.Words.{joined-low, joined-high, joined-bit}
 use Rattle.sizes.specs.Sizes.{infoBits, parityBits, parityFrom, fecBits, infoBytes, parityBytes, fecBlocks, superBits, superBytes, superElements}
-use Rattle.sizes.specs.Sizes.{elementBits, superInfoBytes, superParityBytes, wordBits, checkBits}
+use Rattle.sizes.specs.Sizes.{elementBits, superInfoBytes, superParityBytes, wordBytes, wordBits, checkBits}
 use Rattle.line.specs.Frames.{superFrom, fecFrom}
 use Rattle.line.specs.Slots.{slotOf}
 use Rattle.line.specs.Words.{elementFrom, superIn, fecIn}
 use Rattle.read_spec.specs.Read.{repaired}
-use Rattle.read_spec.specs.Steps.{sequence, frameOf, firstWholeByte, followed, plainByte, infoIn, parityIn}
+use Rattle.read_spec.specs.Steps.{frameOf, firstWholeByte, followed, plainWord, infoIn, parityIn}
 
 -- ---- bits
 
@@ -51,58 +48,43 @@ followed-high a b x l h =
 
 module _ (W : ℕ → List ℕ) (f l : ℕ) where
   abbrev pair : List ℕ
-  pair = followed (W (slotOf (superElements * f + l))) (W (slotOf (superElements * f + (l + 1))))
+  pair = followed (plainWord W (superElements * f + l)) (plainWord W (superElements * f + (l + 1)))
 
-  -- the 128 bits from the first bit of element l on: 119 of its word, nine of the next one's
-  super-bit : (x : ℕ) → x < wordBits → superIn W f (elementBits * l + x) ≡ (bitAt pair x + o (elementBits * l + x)) % 2
+  plain-bit : (e x k : ℕ) → x < wordBits → framePlace e + x ≡ k → bitAt (plainWord W e) x ≡ (bitAt (W (slotOf e)) x + o k) % 2
+  plain-bit e x k h p =
+      bitOf-packs 8 wordBytes (λ i. (bitAt (W (slotOf e)) i + o (framePlace e + i)) % 2) x (λ i. omega arith) h
+      ∙ ap (λ (y : ℕ). (bitAt (W (slotOf e)) x + o y) % 2) p
+
+  -- the 128 bits from the first bit of element l on, as far as the super frame goes: 119 of its word, nine of the next one's
+  super-bit : (x : ℕ) → x < wordBits → l < superElements → elementBits * l + x < superBits → bitAt pair x ≡ superIn W f (elementBits * l + x)
   unfolding superIn superFrom elementFrom
-  super-bit x h = by-bound elementBits x low high
+  super-bit x h m n = by-bound elementBits x low high
     where
-      low : x < elementBits → superIn W f (elementBits * l + x) ≡ (bitAt pair x + o (elementBits * l + x)) % 2
-      low m =
+      low : x < elementBits → bitAt pair x ≡ superIn W f (elementBits * l + x)
+      low i =
           let p : (elementBits * l + x) / elementBits ≡ l = omega arith in
           let q : (elementBits * l + x) % elementBits ≡ x = omega arith in
-          rw (p, q, followed-low (W (slotOf (superElements * f + l))) (W (slotOf (superElements * f + (l + 1)))) x m)
+          rw (p, q)
+          (followed-low (plainWord W (superElements * f + l)) (plainWord W (superElements * f + (l + 1))) x i
+          ∙ plain-bit (superElements * f + l) x (elementBits * l + x) h (omega arith))
 
-      high : elementBits ≤ x → superIn W f (elementBits * l + x) ≡ (bitAt pair x + o (elementBits * l + x)) % 2
-      high m =
+      high : elementBits ≤ x → bitAt pair x ≡ superIn W f (elementBits * l + x)
+      high i =
           let p : (elementBits * l + x) / elementBits ≡ l + 1 = omega arith in
           let q : (elementBits * l + x) % elementBits ≡ x - elementBits = omega arith in
-          rw (p, q, followed-high (W (slotOf (superElements * f + l))) (W (slotOf (superElements * f + (l + 1)))) x m h)
+          rw (p, q)
+          (followed-high (plainWord W (superElements * f + l)) (plainWord W (superElements * f + (l + 1))) x i h
+          ∙ plain-bit (superElements * f + (l + 1)) (x - elementBits) (elementBits * l + x) (omega arith) (omega arith))
 
-  -- the same bits at their place in the super frame
-  placed : ℕ → ℕ
-  placed i = bitAt pair (i - elementBits * l)
-
-  placed-lt : Bits placed
-  unfolding placed
-  placed-lt i = bitOf-lt 8 pair (i - elementBits * l)
-
-  -- byte k from the first whole byte of element l on
-  plain-byte : (k : ℕ) → k < 15 → bitXor (num 8 (bitAt pair) (8 * k + l % 8)) (num 8 o (8 * (firstWholeByte l + k))) ≡ num 8 (superIn W f) (8 * (firstWholeByte l + k))
-  unfolding placed
-  plain-byte k h =
-      let p : 8 * (15 * l - l / 8 + k) ≡ elementBits * l + (8 * k + l % 8) = omega arith in
-      ap (λ (x : ℕ). bitXor x (num 8 o (8 * (firstWholeByte l + k))))
-      (num-ext 8 (bitAt pair) placed (8 * k + l % 8) (8 * (firstWholeByte l + k)) (λ j m. ap (bitAt pair) (omega arith)))
-      ∙ num-xor 8 placed o (8 * (firstWholeByte l + k)) placed-lt o-lt
-      ∙ num-ext 8 (added placed o) (superIn W f) (8 * (firstWholeByte l + k)) (8 * (firstWholeByte l + k))
-      (λ j m.
-      let q : 8 * (15 * l - l / 8 + k) + j ≡ elementBits * l + (8 * k + l % 8 + j) = omega arith in
-      let s : 8 * (15 * l - l / 8 + k) + j - elementBits * l ≡ 8 * k + l % 8 + j = omega arith in
-      ap₂ (λ (x y : ℕ). (bitAt pair x + o y) % 2) s q ∙ sym (super-bit (8 * k + l % 8 + j) (omega arith)) ∙ ap (superIn W f) (sym q))
-
--- byte k of those that begin in element l, as the code makes it out of the element's word and the next one's
-pub element-byte : (cap scr v : List ℕ) (f l n k : ℕ) → scr ≡ sequence → v ≡ pair (repaired cap) f l → l < superElements → n ≡ firstWholeByte (l + 1) - firstWholeByte l
-    → k < n
-    → plainByte v (l % 8) (take n (drop (firstWholeByte l) scr)) k ≡ byteOf (superIn (repaired cap) f) (firstWholeByte l + k)
-unfolding plainByte
-element-byte cap scr v f l n k es ev hl en h =
-    ap₂ bitXor (ap (λ (s : List ℕ). num 8 (bitAt s) (8 * k + l % 8)) ev)
-    (getD-take n (drop (firstWholeByte l) scr) k 0 h ∙ getD-drop (firstWholeByte l) scr k 0
-    ∙ ap (λ (s : List ℕ). getD s (firstWholeByte l + k) 0) es
-    ∙ getD-tabulate 0 superBytes (byteOf o) (firstWholeByte l + k) (omega arith))
-    ∙ plain-byte (repaired cap) f l k (omega arith)
+-- byte k of those that begin in element l, out of the element's word and the next one's
+pub element-byte : (W : ℕ → List ℕ) (v : List ℕ) (f l n k : ℕ) → v ≡ pair W f l → l < superElements → n ≡ firstWholeByte (l + 1) - firstWholeByte l → k < n
+    → byteOf (fromIndex (bitAt v) (l % 8)) k ≡ byteOf (superIn W f) (firstWholeByte l + k)
+element-byte W v f l n k ev hl en h =
+    num-ext 8 (fromIndex (bitAt v) (l % 8)) (superIn W f) (8 * k) (8 * (firstWholeByte l + k))
+    (λ j m.
+    let x = l % 8 + (8 * k + j) in
+    let q : elementBits * l + (l % 8 + (8 * k + j)) ≡ 8 * (15 * l - l / 8 + k) + j = omega arith in
+    ap (λ (s : List ℕ). bitAt s x) ev ∙ super-bit W f l x (omega arith) hl (omega arith) ∙ ap (superIn W f) q)
 
 -- ---- FEC blocks in a super frame
 

@@ -4,9 +4,8 @@ use Prim.Native.Nat.{ℕ, _+_, _-_, _*_, _/_, _%_, _≤_, _<_}
 use mathlib.Core.Bool.{Bool, not, cond}
 use mathlib.Core.Path.{_≡_}
 use mathlib.Core.List.{List}
-use lib.Bits.{bitXor}
 use lib.Dec.{ltb, eqb}
-use lib.ListN.{getD, length}
+use lib.ListN.{length}
 use Rattle.prelude.specs.Lists.{fromIndex}
 use Rattle.bits.specs.Bits.{num, bitAt, pack}
 use Rattle.prelude.specs.Loops.{first, count}
@@ -16,13 +15,15 @@ use Rattle.answer.specs.Outcomes.{written}
 use Rattle.answer.specs.declared.Answer.{Answer}
 use Rattle.crc.specs.Crc.{crcOf}
 use Rattle.scrambler.specs.Scrambler.{o}
+use Rattle.scrambling.specs.Scrambling.{framePlace}
 use Rattle.hamming.specs.Code.{joinedWord}
 use Rattle.hamming_matrix.specs.Steps.{positionTable}
 use Rattle.hamming_table.specs.Steps.{byteTable}
 use Rattle.sizes.specs.Sizes.{infoBits, crcBits, mbasBits, parityBits, mbasFrom, parityFrom, fecBits, fecBlocks, padFrom, padBits, superBytes, infoLength}
-use Rattle.sizes.specs.Sizes.{parityLength, captureLength, words, mostFrames, checkBits}
+use Rattle.sizes.specs.Sizes.{parityLength, captureLength, words, mostFrames, checkBits, wordBytes}
 use Rattle.line.specs.Fec.{mbasOf}
 use Rattle.line.specs.Frames.{infoOf, parityOf}
+use Rattle.line.specs.Slots.{slotOf}
 use Rattle.line.specs.Words.{superIn, fecIn}
 use Rattle.read_spec.specs.Read.{repaired, isBeyond, isFilled, mbasDiffers, crcDiffers, padDiffers, isSeen}
 use Rattle.read_spec.specs.declared.WordTally.{WordTally}
@@ -41,9 +42,6 @@ pub record AcceptedRead (N : ℕ) (cap info par : List ℕ) : Type 0 where
 pub record Tables (t positions : List ℕ) : Type 0 where
   pub checks : t ≡ byteTable
   pub places : positions ≡ positionTable
-
-abbrev pub sequence : List ℕ
-sequence = pack superBytes o
 
 -- ---- a search that goes on to the end: x is the first place picked among k places, or k where there is none, and place k is taken in
 
@@ -74,9 +72,9 @@ firstWholeByte l = 15 * l - l / 8
 abbrev pub followed : List ℕ → List ℕ → List ℕ
 followed a b = joinedWord (bitAt a) (num checkBits (bitAt b) 0)
 
--- byte k from bit i of v on, and the scrambler's byte k added
-unfoldable pub plainByte : List ℕ → ℕ → List ℕ → ℕ → ℕ
-plainByte v i scr k = bitXor (num 8 (bitAt v) (8 * k + i)) (getD scr k 0)
+-- the word of element e of the words W, descrambled
+abbrev pub plainWord : (ℕ → List ℕ) → ℕ → List ℕ
+plainWord W e = pack wordBytes (λ i. (bitAt (W (slotOf e)) i + o (framePlace e + i)) % 2)
 
 -- ---- its FEC blocks, out of its bytes s; block b of the super frame is block t of the capture
 

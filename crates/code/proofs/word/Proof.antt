@@ -32,35 +32,28 @@ plain-element-requires : tie.Need-plain-element-requires
 plain-element-requires c κs = let s = c .before .before .before .before .before .before in
     (s .pre .0 .few, s .pre .0 .blocks, rw (c .element-in .ensures) (held (s .args .n) (s .args .w) (holding (c .before)) .below))
 
-mul-word-from : tie.Need-mul-word-from
-mul-word-from c = search needs
-
-word-from-requires : tie.Need-word-from-requires
-word-from-requires c κs = search needs
-
-sum-requires : tie.Need-sum-requires
-sum-requires c κs = search needs
+element-requires : tie.Need-element-requires
+element-requires c κs = search needs
 
 encode-by-requires : tie.Need-encode-by-requires
 encode-by-requires c κs = search needs
 
 returns-2 : tie.Need-returns-2
 returns-2 c =
-    let at-word-from = c .before .before in
-    let at-plain-element = at-word-from .before in
+    let at-element = c .before in
+    let at-plain-element = at-element .before in
     let at-element-in = at-plain-element .before in
     let at-before = at-element-in .before .before .before .before .before in
     let s = at-before .before in
     let a = s .args in
     word-held (a .n) (fecBit (a .m0) (now (a .info)) (now (a .parity))) (a .w) (at-element-in .element-in .result) (now (a .sequence)) (now (a .table))
     (now (a .tails))
-    (at-plain-element .plain-element .result) (at-word-from .word-from .result) (c .before .sum .result) (c .encode-by .result)
+    (at-plain-element .plain-element .result) (at-element .element .result) (c .encode-by .result)
     (holding (at-element-in .before)) (at-element-in .element-in .ensures)
-    (s .pre .0 .scrambles) (s .pre .0 .checks) (s .pre .0 .closes) (at-plain-element .plain-element .ensures) (at-word-from .word-from .ensures)
-    (c .before .sum .ensures) (c .encode-by .ensures)
+    (s .pre .0 .scrambles) (s .pre .0 .checks) (s .pre .0 .closes) (at-plain-element .plain-element .ensures) (at-element .element .ensures)
+    (c .encode-by .ensures)
 
 pub word-spec : {M : Type 1} → statement M
 word-spec =
     tie.close
-    (tie.spec holds-element-requires returns element-in-requires plain-element-requires mul-word-from word-from-requires sum-requires
-    encode-by-requires returns-2)
+    (tie.spec holds-element-requires returns element-in-requires plain-element-requires element-requires encode-by-requires returns-2)

@@ -39,7 +39,7 @@ loop-again : tie.Need-loop-again Inv-loop μ-loop
 unfolding digit
 loop-again c =
     let h = c .before .before .loop in
-    (omega arith, crc-rem-more (digit 8 _) (h .j) (h .inv .1) refl (c .take-bit .ensures))
+    (omega arith, crc-rem-more 0 (digit 8 _) (h .j) (h .inv .1) refl (c .take-bit .ensures))
 
 returns : tie.Need-returns Inv-loop μ-loop
 returns c = let e : c .before .loop .j ≡ 8 = omega arith in rw e at (c .before .loop .inv .1)

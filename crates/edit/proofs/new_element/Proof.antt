@@ -1,42 +1,49 @@
 -- `edit::new_element` meets its contract. Assumes nothing.
-use Prim.Native.Nat.{_-_}
 use native.Mathlib.Omega.{arith}
-use Rattle.sizes.specs.Sizes.{wordBytes}
-use Rattle.bits.specs.Bits.{byteOf}
-use Rattle.prelude.proofs.Lists.{Filled, filled-none, filled-more, filled-all}
-use Rattle.edit_spec.specs.Steps.{newElement}
+use denote.Ref.{now}
+use Rattle.edit_spec.specs.Edit.{elementLocal}
+use Rattle.edit_spec.proofs.Remaking.{block-made, tail-made, parity-made}
+use borrow.Author.Needs.{needs}
 use Rattle.edit.proofs.new_element.Statement.{statement}
 use Rattle.edit.proofs.new_element.Tie as tie
 
-abbrev Inv-loop : tie.InvT-loop
-Inv-loop b bits parity scr crc e old r₀ j₀ r j = Filled j (byteOf (newElement b bits parity crc e old)) r₀ r
+block-element-requires : tie.Need-block-element-requires
+block-element-requires c κs = search needs
 
-abbrev μ-loop : tie.MeasureT-loop
-μ-loop b bits parity scr crc e old r₀ j₀ r j = wordBytes - j
+returns : tie.Need-returns
+unfolding elementLocal
+returns c =
+    let t = c .before in
+    let a = t .before .before .before .args in
+    block-made (a .b) (now (a .bits)) (now (a .parity)) (a .crc) (a .e) (a .old) (c .block-element .result) (t .if1 .taken) (c .block-element .ensures)
 
-loop-holds : tie.Need-loop-holds Inv-loop μ-loop
-loop-holds c = filled-none
+tail-element-requires : tie.Need-tail-element-requires
+tail-element-requires c κs = search needs
 
-new-byte-requires : tie.Need-new-byte-requires Inv-loop μ-loop
-new-byte-requires c κs =
-    let s = c .before .before .before .before .before in (s .pre .0, s .pre .1, omega arith)
+returns-2 : tie.Need-returns-2
+unfolding elementLocal
+returns-2 c =
+    let t = c .before in
+    let a = t .before .before .before .before .args in
+    tail-made (a .b) (now (a .bits)) (now (a .parity)) (a .crc) (a .e) (a .old) (c .tail-element .result) (t .if2 .taken) (c .tail-element .ensures)
 
-array-write-r : tie.Need-array-write-r Inv-loop μ-loop
-array-write-r c = omega arith
+field-element-requires : tie.Need-field-element-requires
+field-element-requires c κs = search needs
 
-add-j : tie.Need-add-j Inv-loop μ-loop
-add-j c = omega arith
-
-loop-less : tie.Need-loop-less Inv-loop μ-loop
-loop-less c = omega arith
-
-loop-again : tie.Need-loop-again Inv-loop μ-loop
-loop-again c = filled-more (c .before .before .loop .inv) (c .before .loop-test .taken) (c .new-byte .ensures)
-
-returns : tie.Need-returns Inv-loop μ-loop
-returns c = filled-all wordBytes (c .before .loop .inv) (c .loop-test .left) (omega arith)
+returns-3 : tie.Need-returns-3
+unfolding elementLocal
+returns-3 c =
+    let t = c .before in
+    let a = t .before .before .before .before .args in
+    parity-made (a .b) (now (a .bits)) (now (a .parity)) (a .crc) (a .e) (a .old) (c .field-element .result) (omega arith) (c .field-element .ensures)
 
 pub new-element-spec : {M : Type 1} → statement M
 new-element-spec =
     tie.close
-    (tie.spec Inv-loop μ-loop loop-holds new-byte-requires array-write-r add-j loop-less loop-again returns)
+    (tie.spec
+    block-element-requires
+    returns
+    tail-element-requires
+    returns-2
+    field-element-requires
+    returns-3)

@@ -14,10 +14,7 @@ word-in-requires : tie.Need-word-in-requires
 word-in-requires c κs = search needs
 
 new-word-requires : tie.Need-new-word-requires
-new-word-requires c κs =
-    let l = c .before .before .before in
-    let s = l .before .before .before .before .before in
-    (s .pre .0, listed-holding (s .args .n) (s .args .b) (s .args .w) (sym (l .is-listed .ensures) ∙ c .before .before .if1 .taken) .no-pad)
+new-word-requires c κs = search needs
 
 put-word-requires : tie.Need-put-word-requires
 put-word-requires c κs = search needs

@@ -1,0 +1,3 @@
+-- What the contracts of `bits_place` are stated in.
+pub mod Masks
+pub mod Steps

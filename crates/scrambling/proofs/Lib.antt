@@ -1,0 +1,3 @@
+-- The laws of `specs/`.
+pub mod Adding
+pub mod Unique

@@ -1,0 +1,2 @@
+-- What the contract of `scrambling` is stated in.
+pub mod Scrambling
