@@ -7,13 +7,14 @@ use native.Mathlib.Omega.{arith}
 use borrow.Rule.Slice.PartMut.{putMid}
 use lib.ListN.{length}
 use Rattle.prelude.specs.Lists.{tabulate, fromIndex}
-use Rattle.bits.specs.Bits.{num, bitAt, byteOf, Bits}
+use Rattle.bits.specs.Bits.{num, bitAt, byteOf, pack, added, Bits}
 use Rattle.prelude.proofs.Common.{by-bound}
 use Rattle.prelude.proofs.Lists.{tabulate-ext, Filled, filled-block}
 use Rattle.bits.proofs.Numbers.{num-ext, digit-num}
-use Rattle.bits.proofs.Packing.{bitOf-lt, bitOf-packs}
+use Rattle.bits.proofs.Packing.{bitOf-lt, bitOf-packs, packs-ext}
 use Rattle.scrambler.specs.Scrambler.{o}
-use Rattle.scrambling.specs.Scrambling.{framePlace}
+use Rattle.scrambling.specs.Scrambling.{onePeriod, framePlace, periodPlace}
+use Rattle.scrambling.proofs.Adding.{sequence-from}
 use Rattle.hamming.specs.Code.{joined}
 use Rattle.hamming.proofs.Words.{joined-low, joined-high, joined-bit}
 use Rattle.sizes.specs.Sizes.{infoBits, parityBits, parityFrom, fecBits, infoBytes, parityBytes, fecBlocks, superBits, superBytes, superElements}
@@ -45,6 +46,13 @@ followed-high a b x l h =
     ∙ ap (bitAt b) (zero-add (x - elementBits))
 
 -- ---- a super frame out of its elements
+
+-- the word of element e, with the sequence added
+pub word-descrambled : (W : ℕ → List ℕ) (scr v r : List ℕ) (e : ℕ) → scr ≡ onePeriod → v ≡ W (slotOf e)
+    → r ≡ pack wordBytes (added (bitAt v) (fromIndex (bitAt scr) (periodPlace e))) → r ≡ plainWord W e
+word-descrambled W scr v r e p q h =
+    h ∙ packs-ext 8 wordBytes (added (bitAt v) (fromIndex (bitAt scr) (periodPlace e))) (λ i. (bitAt (W (slotOf e)) i + o (framePlace e + i)) % 2)
+    (λ i l. ap₂ (λ (s : List ℕ) (y : ℕ). (bitAt s i + y) % 2) q (sequence-from scr (framePlace e) i p l))
 
 module _ (W : ℕ → List ℕ) (f l : ℕ) where
   abbrev pair : List ℕ

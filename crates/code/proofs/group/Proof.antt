@@ -25,7 +25,7 @@ add-word : tie.Need-add-word Inv-loop μ-loop
 add-word c = search loops
 
 word-requires : tie.Need-word-requires Inv-loop μ-loop
-word-requires c κs = (c .before .before .before .before .before .pre .0, omega arith)
+word-requires c κs = (c .before .before .before .before .pre .0, omega arith)
 
 mul-words : tie.Need-mul-words Inv-loop μ-loop
 mul-words c = search loops

@@ -12,7 +12,7 @@ use Rattle.code.proofs.word.Statement.{statement}
 use Rattle.code.proofs.word.Tie as tie
 
 -- the word was found to hold an element
-holding : (c : tie.Else1) → holds (c .before .before .before .before .before .args .n) (c .before .before .before .before .before .args .w) ≡ true
+holding : (c : tie.Else1) → holds (c .before .before .before .before .args .n) (c .before .before .before .before .args .w) ≡ true
 holding c = sym (c .before .holds-element .ensures) ∙ not-false (c .before .holds-element .result) (c .if1 .left)
 
 holds-element-requires : tie.Need-holds-element-requires
@@ -20,7 +20,7 @@ holds-element-requires c κs = search needs
 
 returns : tie.Need-returns
 returns c =
-    let entry = c .before .before .before .before .before in
+    let entry = c .before .before .before .before in
     let a = entry .args in
     word-filler (a .n) (fecBit (a .m0) (now (a .info)) (now (a .parity))) (a .w) (sym (c .before .holds-element .ensures)
     ∙ not-true (c .before .holds-element .result) (c .if1 .taken))
@@ -29,7 +29,7 @@ element-in-requires : tie.Need-element-in-requires
 element-in-requires c κs = search needs
 
 plain-element-requires : tie.Need-plain-element-requires
-plain-element-requires c κs = let s = c .before .before .before .before .before .before in
+plain-element-requires c κs = let s = c .before .before .before .before .before in
     (s .pre .0 .few, s .pre .0 .blocks, rw (c .element-in .ensures) (held (s .args .n) (s .args .w) (holding (c .before)) .below))
 
 element-requires : tie.Need-element-requires
@@ -43,7 +43,7 @@ returns-2 c =
     let at-element = c .before in
     let at-plain-element = at-element .before in
     let at-element-in = at-plain-element .before in
-    let at-before = at-element-in .before .before .before .before .before in
+    let at-before = at-element-in .before .before .before .before in
     let s = at-before .before in
     let a = s .args in
     word-held (a .n) (fecBit (a .m0) (now (a .info)) (now (a .parity))) (a .w) (at-element-in .element-in .result) (now (a .sequence)) (now (a .table))

@@ -29,7 +29,7 @@ loop-holds : tie.Need-loop-holds Inv-loop μ-loop
 loop-holds c = filled-none
 
 group-requires : tie.Need-group-requires Inv-loop μ-loop
-group-requires c κs = (c .before .before .before .before .before .before .pre .0, omega arith)
+group-requires c κs = (c .before .before .before .before .before .pre .0, omega arith)
 
 mul-from : tie.Need-mul-from Inv-loop μ-loop
 mul-from c = omega arith
@@ -60,7 +60,7 @@ loop-less c = omega arith
 
 loop-again : tie.Need-loop-again Inv-loop μ-loop
 loop-again c =
-    let a = c .before .before .before .before .before .before .before .before .before .before .before .before .args in
+    let a = c .before .before .before .before .before .before .before .before .before .before .before .args in
     let g = c .before .before .before .before .before .before .before .loop .g in
     let W = wordsOf (a .n) (fecBit (a .m0) (now (a .info)) (now (a .parity))) in
     let k = groupSize * g + groupSize - groupSize * g in
@@ -74,7 +74,7 @@ same-length c = omega arith
 
 returns : tie.Need-returns Inv-loop μ-loop
 unfolding captureOf laidBy
-returns c = filled-all (captureLength (c .before .before .before .before .before .before .args .n)) (c .before .loop .inv) (omega arith) (omega arith)
+returns c = filled-all (captureLength (c .before .before .before .before .before .args .n)) (c .before .loop .inv) (omega arith) (omega arith)
 
 pub write-groups-spec : {M : Type 1} → statement M
 write-groups-spec =

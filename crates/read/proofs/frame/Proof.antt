@@ -1,52 +1,47 @@
 -- `read::frame` meets its contract: before element l the bytes that begin in the elements before it are there. Assumes nothing.
 use Prim.Native.Nat.{ℕ, _%_, _+_, _-_, _*_, _≤_}
-use mathlib.Core.Path.{refl, ap₂, _≡_, ap, _∙_}
-use lib.ListN.{take, drop, length}
-use Rattle.bits.proofs.Packing.{length-packs}
-use Rattle.scrambler.specs.Scrambler.{o}
-use Rattle.sizes.specs.Sizes.{superBytes, superElements}
-use Rattle.read_spec.specs.Steps.{followed, plainByte, firstWholeByte}
-use Rattle.read_spec.proofs.Places.{element-byte, bytes-filled}
+use mathlib.Core.Path.{refl, ap, ap₂, _≡_, _∙_}
 use native.Mathlib.Omega.{arith}
 use denote.Ref.{now}
+use lib.ListN.{take, drop, length}
 use borrow.Author.Needs.{needs}
-use Rattle.bits.specs.Bits.{byteOf}
+use Rattle.prelude.specs.Lists.{fromIndex}
+use Rattle.bits.specs.Bits.{bitAt, byteOf}
 use Rattle.prelude.proofs.Lists.{Filled, filled-none, filled-all, part-long}
-use Rattle.line.specs.Slots.{slotOf}
+use Rattle.sizes.specs.Sizes.{superBytes, superElements}
 use Rattle.line.specs.Words.{superIn}
 use Rattle.read_spec.specs.Read.{repaired}
+use Rattle.read_spec.specs.Steps.{followed, plainWord, firstWholeByte}
+use Rattle.read_spec.proofs.Places.{element-byte, bytes-filled}
 use Rattle.read.proofs.frame.Statement.{statement}
 use Rattle.read.proofs.frame.Tie as tie
 
 abbrev Inv-loop : tie.InvT-loop
-Inv-loop t positions scr capture f out₀ here₀ l₀ out here l = Filled (firstWholeByte l) (byteOf (superIn (repaired capture) f)) out₀ out
-    × (here ≡ repaired capture (slotOf (superElements * f + l))) × (l ≤ superElements)
+Inv-loop t positions scr capture f out₀ first here₀ l₀ out here l = Filled (firstWholeByte l) (byteOf (superIn (repaired capture) f)) out₀ out
+    × (here ≡ plainWord (repaired capture) (superElements * f + l)) × (l ≤ superElements)
 
 abbrev μ-loop : tie.MeasureT-loop
-μ-loop t positions scr capture f out₀ here₀ l₀ out here l = superElements - l
+μ-loop t positions scr capture f out₀ first here₀ l₀ out here l = superElements - l
 
-mul-element : tie.Need-mul-element Inv-loop μ-loop
-mul-element c = search needs
+mul-first : tie.Need-mul-first Inv-loop μ-loop
+mul-first c = search needs
 
-element-requires : tie.Need-element-requires Inv-loop μ-loop
-element-requires c κs = search needs
+plain-word-requires : tie.Need-plain-word-requires Inv-loop μ-loop
+plain-word-requires c κs = search needs
 
 loop-holds : tie.Need-loop-holds Inv-loop μ-loop
 loop-holds c =
-    let entry = c .before .before .before .before in
-    (filled-none, c .element .ensures ∙ ap (λ (e : ℕ). repaired (now (entry .args .capture)) (slotOf e)) (omega arith), omega arith)
+    let entry = c .before .before .before in
+    (filled-none, c .plain-word .ensures ∙ ap (plainWord (repaired (now (entry .args .capture)))) (omega arith), omega arith)
 
-mul-element-2 : tie.Need-mul-element-2 Inv-loop μ-loop
-mul-element-2 c = search needs
+add-plain-word : tie.Need-add-plain-word Inv-loop μ-loop
+add-plain-word c = search needs
 
-add-element : tie.Need-add-element Inv-loop μ-loop
-add-element c = search needs
+add-plain-word-2 : tie.Need-add-plain-word-2 Inv-loop μ-loop
+add-plain-word-2 c = search needs
 
-add-element-2 : tie.Need-add-element-2 Inv-loop μ-loop
-add-element-2 c = search needs
-
-element-requires-2 : tie.Need-element-requires-2 Inv-loop μ-loop
-element-requires-2 c κs = search needs
+plain-word-requires-2 : tie.Need-plain-word-requires-2 Inv-loop μ-loop
+plain-word-requires-2 c κs = search needs
 
 mul-a : tie.Need-mul-a Inv-loop μ-loop
 mul-a c = search needs
@@ -69,28 +64,20 @@ sub-e c = search needs
 follow-requires : tie.Need-follow-requires Inv-loop μ-loop
 follow-requires c κs = search needs
 
-sub-put-bytes : tie.Need-sub-put-bytes Inv-loop μ-loop
-sub-put-bytes c = search needs
+slice-aggregate-copy : tie.Need-slice-aggregate-copy Inv-loop μ-loop
+slice-aggregate-copy c = search needs
 
-part-put-bytes-start : tie.Need-part-put-bytes-start Inv-loop μ-loop
-part-put-bytes-start c = search needs
+sub-copy : tie.Need-sub-copy Inv-loop μ-loop
+sub-copy c = search needs
 
-part-put-bytes-end : tie.Need-part-put-bytes-end Inv-loop μ-loop
-part-put-bytes-end c =
-    let s = c .before .before .before .before .before .before .before .before in
-    let h : length (now (s .args .scr)) ≡ superBytes = ap length (s .pre .1) ∙ length-packs 8 superBytes o in search needs
+part-copy-start : tie.Need-part-copy-start Inv-loop μ-loop
+part-copy-start c = search needs
 
-sub-put-bytes-2 : tie.Need-sub-put-bytes-2 Inv-loop μ-loop
-sub-put-bytes-2 c = search needs
+part-copy-end : tie.Need-part-copy-end Inv-loop μ-loop
+part-copy-end c = search needs
 
-part-put-bytes-start-2 : tie.Need-part-put-bytes-start-2 Inv-loop μ-loop
-part-put-bytes-start-2 c = search needs
-
-part-put-bytes-end-2 : tie.Need-part-put-bytes-end-2 Inv-loop μ-loop
-part-put-bytes-end-2 c = search needs
-
-put-bytes-requires : tie.Need-put-bytes-requires Inv-loop μ-loop
-put-bytes-requires c κs = search needs
+copy-requires : tie.Need-copy-requires Inv-loop μ-loop
+copy-requires c κs = search needs
 
 add-l : tie.Need-add-l Inv-loop μ-loop
 add-l c = search needs
@@ -101,25 +88,20 @@ loop-less c = search needs
 loop-again : tie.Need-loop-again Inv-loop μ-loop
 loop-again c =
     let at-follow = c .before .before .before .before .before in
-    let at-element = at-follow .before in
-    let at-loop-test = at-element .before in
+    let at-next = at-follow .before in
+    let at-loop-test = at-next .before in
     let at-loop = at-loop-test .before in
-    let at-before = at-loop .before .before .before .before in
     let h = at-loop .loop in
-    let s = at-before .before in
-    let a = s .args in
+    let a = at-loop .before .before .before .before .args in
     let k = firstWholeByte (h .l + 1) - firstWholeByte (h .l) in
     let cap = now (a .capture) in
-    let scr = now (a .scr) in
     let v = at-follow .follow in
-    let e = at-element .element2 .ensures in
+    let next = at-next .plain-word2 .ensures in
     let len : length (take k (drop (firstWholeByte (h .l)) (h .out))) ≡ k = part-long (firstWholeByte (h .l)) k (h .out) (omega arith) in (
-      bytes-filled k (firstWholeByte (h .l + 1)) (length (take k (drop (firstWholeByte (h .l)) (h .out))))
-          (plainByte (v .result) (h .l % 8) (take k (drop (firstWholeByte (h .l)) scr)))
-          (h .inv .0) (omega arith) (omega arith) len (c .before .before .put-bytes .ensures)
-          (λ j l. element-byte cap scr (v .result) (a .f) (h .l) k j (s .pre .1) (v .ensures
-          ∙ ap₂ followed (h .inv .1) e) (at-loop-test .loop-test .taken) refl l),
-      e,
+      bytes-filled k (firstWholeByte (h .l + 1)) (length (take k (drop (firstWholeByte (h .l)) (h .out)))) (byteOf (fromIndex (bitAt (v .result)) (h .l % 8)))
+          (h .inv .0) (omega arith) (omega arith) len (c .before .before .copy .ensures)
+          (λ j m. element-byte (repaired cap) (v .result) (a .f) (h .l) k j (v .ensures ∙ ap₂ followed (h .inv .1) next) (at-loop-test .loop-test .taken) refl m),
+      next,
       omega arith,
     )
 
@@ -132,6 +114,5 @@ returns c = filled-all superBytes (c .before .loop .inv .0) (omega arith) (searc
 pub frame-spec : {M : Type 1} → statement M
 frame-spec =
     tie.close
-    (tie.spec Inv-loop μ-loop mul-element element-requires loop-holds mul-element-2 add-element add-element-2 element-requires-2 mul-a sub-a add-e
-    mul-e add-e-2 sub-e follow-requires sub-put-bytes part-put-bytes-start part-put-bytes-end sub-put-bytes-2 part-put-bytes-start-2
-    part-put-bytes-end-2 put-bytes-requires add-l loop-less loop-again same-length returns)
+    (tie.spec Inv-loop μ-loop mul-first plain-word-requires loop-holds add-plain-word add-plain-word-2 plain-word-requires-2 mul-a sub-a add-e mul-e
+    add-e-2 sub-e follow-requires slice-aggregate-copy sub-copy part-copy-start part-copy-end copy-requires add-l loop-less loop-again same-length returns)
