@@ -1,12 +1,12 @@
 /* Times the library (zr400_..) and the plain C coder (plain_..) on the same input, one after the other, and compares what
- * they give. bench/run builds and starts it. With the word `count` it works once on one super frame instead, and marks where
- * each task ends for an emulator that counts. */
+ * they give. bench/run builds and starts it. With the path of a shared library, which is the library of an earlier commit, it
+ * does the same with that one too. With the word `count` it works once on one super frame instead, and marks where each task
+ * ends for an emulator that counts. */
+#include "measure.h"
 #include "zr400.h"
 
-#include <stdio.h>
-#include <stdlib.h>
+#include <dlfcn.h>
 #include <string.h>
-#include <time.h>
 #include <unistd.h>
 
 enum { N = 8, M0 = 7, EDITS = 400, COUNTED_EDITS = 4 };
@@ -26,37 +26,37 @@ struct coder {
     edit_call *edit;
 };
 
-/* How much is done in a round. */
-static uint64_t n = N, edits = EDITS;
+enum { LIBRARY, PLAIN, EARLIER, MOST_CODERS };
 
-static const struct coder coders[2] = {{zr400_code, zr400_read, zr400_edit}, {plain_code, plain_read, plain_edit}};
+/* How much is done in a round, and by how many coders: the earlier library is there only where one is named. */
+static uint64_t n = N, edits = EDITS;
+static int taking_turns = EARLIER;
+
+static struct coder coders[MOST_CODERS] = {{zr400_code, zr400_read, zr400_edit}, {plain_code, plain_read, plain_edit}};
 
 static uint8_t info[ZR400_INFORMATION_BYTES(N)], parity[ZR400_PARITY_BYTES(N)], capture[ZR400_CAPTURE_BYTES(N)];
 static uint8_t flipped[sizeof capture];
-static uint8_t out_capture[2][sizeof capture], out_info[2][sizeof info], out_parity[2][sizeof parity];
-static uint64_t out_list[2][ZR400_LIST_LENGTH];
+static uint8_t out_capture[MOST_CODERS][sizeof capture], out_info[MOST_CODERS][sizeof info];
+static uint8_t out_parity[MOST_CODERS][sizeof parity];
+static uint64_t out_list[MOST_CODERS][ZR400_LIST_LENGTH];
 
-static void stop(const char *what)
+static void *find(void *library, const char *name)
 {
-    dprintf(2, "bench: %s\n", what);
-    exit(1);
+    void *found = dlsym(library, name);
+    if (found == NULL)
+        stop(dlerror());
+    return found;
 }
 
-static void fill(uint8_t *bytes, size_t length, uint64_t x)
+static void load_earlier(const char *path)
 {
-    for (size_t i = 0; i < length; i++) {
-        x ^= x >> 12;
-        x ^= x << 25;
-        x ^= x >> 27;
-        bytes[i] = (uint8_t)(x * 0x2545F4914F6CDD1Du >> 56);
-    }
-}
-
-static double now(void)
-{
-    struct timespec t;
-    clock_gettime(CLOCK_MONOTONIC, &t);
-    return (double)t.tv_sec + (double)t.tv_nsec / 1e9;
+    void *library = dlopen(path, RTLD_NOW);
+    if (library == NULL)
+        stop(dlerror());
+    coders[EARLIER].code = (code_call *)find(library, "zr400_code");
+    coders[EARLIER].read = (read_call *)find(library, "zr400_read");
+    coders[EARLIER].edit = (edit_call *)find(library, "zr400_edit");
+    taking_turns = MOST_CODERS;
 }
 
 /* One round of a task by a coder: the work done, in megabytes of capture or in edits. */
@@ -107,25 +107,39 @@ static double edit(const struct coder *c, int which)
     return (double)edits;
 }
 
-static void compare(void)
+static int differs_from_library(int which)
 {
-    if (memcmp(out_capture[0], out_capture[1], sizeof capture) != 0 || memcmp(out_info[0], out_info[1], sizeof info) != 0 ||
-        memcmp(out_parity[0], out_parity[1], sizeof parity) != 0 || memcmp(out_list[0], out_list[1], sizeof out_list[0]) != 0)
-        stop("the two coders wrote different bytes");
+    return memcmp(out_capture[LIBRARY], out_capture[which], sizeof capture) != 0 ||
+           memcmp(out_info[LIBRARY], out_info[which], sizeof info) != 0 ||
+           memcmp(out_parity[LIBRARY], out_parity[which], sizeof parity) != 0 ||
+           memcmp(out_list[LIBRARY], out_list[which], sizeof out_list[which]) != 0;
 }
 
-/* Both coders take turns for at least three rounds and a second; the best round of each counts, since other work on the
- * machine only slows a round. */
+static void compare(void)
+{
+    if (differs_from_library(PLAIN))
+        stop("the two coders wrote different bytes");
+    if (taking_turns > EARLIER && differs_from_library(EARLIER))
+        stop("the library and the earlier one wrote different bytes");
+}
+
+/* The coders take turns for at least three rounds, and half a second for each; the best round of each counts, since other
+ * work on the machine only slows a round. Of three, two change places from round to round: each then follows each of the
+ * others, which leave the caches differently. */
 static void line(const char *name, const char *unit, task *t)
 {
-    double best[2] = {0, 0}, start = now();
-    for (int round = 0; round < 3 || now() - start < 1; round++)
-        for (int which = 0; which < 2; which++) {
+    double best[MOST_CODERS] = {0}, start = now();
+    for (int round = 0; round < 3 || now() - start < taking_turns / 2.0; round++)
+        for (int k = 0; k < taking_turns; k++) {
+            int which = (round % 2 == 0 ? k : taking_turns - k) % taking_turns;
             double began = now(), work = t(&coders[which], which), speed = work / (now() - began);
             if (speed > best[which])
                 best[which] = speed;
         }
-    printf("%-30s %10.1f %-8s %10.1f %-8s %6.2f\n", name, best[0], unit, best[1], unit, best[0] / best[1]);
+    printf("%-30s %10.1f %-8s %10.1f %-8s %6.2f", name, best[LIBRARY], unit, best[PLAIN], unit, best[LIBRARY] / best[PLAIN]);
+    if (taking_turns > EARLIER)
+        printf(" %10.1f %-8s %10.2f", best[EARLIER], unit, best[EARLIER] / best[LIBRARY]);
+    printf("\n");
     compare();
 }
 
@@ -156,7 +170,7 @@ static void run_marked(void)
     __asm__ volatile(".rept 1000\n nop\n .endr");
     mark();
     for (int k = 0; k < 4; k++)
-        for (int which = 0; which < 2; which++) {
+        for (int which = LIBRARY; which <= PLAIN; which++) {
             tasks[k].t(&coders[which], which);
             mark();
         }
@@ -175,6 +189,22 @@ static void make_inputs(void)
     }
 }
 
+static void print_table(void)
+{
+    int with_earlier = taking_turns > EARLIER;
+    printf("%-30s %19s %19s %6s", "", "library", "plain C", "ratio");
+    if (with_earlier)
+        printf(" %19s %10s", "before", "now/before");
+    printf("\n");
+    for (int k = 0; k < 4; k++)
+        line(tasks[k].name, tasks[k].unit, tasks[k].t);
+    printf("Captures of %d super frames; MB are millions of capture bytes. %s gave the same answers and bytes.\n", N,
+           with_earlier ? "All three coders" : "Both coders");
+    if (with_earlier)
+        printf("now/before is the time that the library takes, divided by the time that the earlier one takes: 0.75 is three "
+               "quarters of it.\n");
+}
+
 int main(int words, char **word)
 {
     if (words == 2 && strcmp(word[1], "count") == 0) {
@@ -184,10 +214,9 @@ int main(int words, char **word)
         run_marked();
         return 0;
     }
+    if (words == 2)
+        load_earlier(word[1]);
     make_inputs();
-    printf("%-30s %19s %19s %6s\n", "", "library", "plain C", "ratio");
-    for (int k = 0; k < 4; k++)
-        line(tasks[k].name, tasks[k].unit, tasks[k].t);
-    printf("Captures of %d super frames; MB are millions of capture bytes. Both coders gave the same answers and bytes.\n", N);
+    print_table();
     return 0;
 }
