@@ -7,8 +7,8 @@ ghost use mathlib.Core.Bool.{not, _&&_};
 ghost use mathlib.Core.Path.{_≡_};
 ghost use Prim.Native.Nat.{_+_, _*_, _^_, _<_, _≤_};
 ghost use lib.Dec.{eqb};
-ghost use lib.ListN.{length};
-ghost use Rattle.prelude.specs.Lists.{fromIndex};
+ghost use lib.ListN.{length, getD};
+ghost use Rattle.prelude.specs.Lists.{tabulate, fromIndex};
 ghost use Rattle.bits.specs.Bits.{num, bitAt, pack};
 ghost use Rattle.prelude.specs.Loops.{upto};
 ghost use Rattle.answer.specs.Outcomes.{Outcome};
@@ -19,13 +19,13 @@ ghost use Rattle.hamming_matrix.specs.Steps.{positionTable};
 ghost use Rattle.hamming_table.specs.Steps.{byteTable};
 ghost use Rattle.hamming.specs.Repair.{repairOf};
 ghost use Rattle.scrambling.specs.Scrambling.{onePeriod};
-ghost use Rattle.sizes.specs.Sizes.{infoBits, fecBits, fecBlocks, superBytes, infoLength, parityLength, words, mostFrames};
+ghost use Rattle.sizes.specs.Sizes.{infoBits, fecBits, fecBlocks, superBytes, infoLength, parityLength, words, mostFrames, wordBytes};
 ghost use Rattle.line.specs.Frames.{infoOf, parityOf};
 ghost use Rattle.line.specs.Slots.{slotOf, holds};
 ghost use Rattle.line_order.specs.Order.{wordIn};
 ghost use Rattle.line.specs.Words.{fecIn};
 ghost use Rattle.read_spec.specs.Read.{repaired, allZero, readAnswer, readLeaves};
-ghost use Rattle.read_spec.specs.Steps.{AcceptedRead, OneIf, Tables, soughtOf, wordsTo, frameOf, followed, plainWord, mbasOff, crcOff, padOff};
+ghost use Rattle.read_spec.specs.Steps.{AcceptedRead, OneIf, Tables, soughtOf, wordsTo, frameOf, followed, mbasOff, crcOff, padOff};
 ghost use Rattle.read_spec.specs.Steps.{blockTaken, framesTo, infoIn, parityIn, lateAnswer, lateLeaves};
 
 // The pad in whole bytes.
@@ -233,26 +233,37 @@ fn element(t: &[u16; 4096], positions: &[u8; 512], capture: &[u8], e: usize) -> 
     r.word
 }
 
-// The same, descrambled.
-fn plain_word(
-    t: &[u16; 4096],
-    positions: &[u8; 512],
-    scr: &[u8; scrambling::PERIOD_BYTES],
-    capture: &[u8],
-    e: usize,
-) -> [u8; 16]
-    requires { ⌜ Tables (now t) (now positions) × (now scr ≡ onePeriod) × (e < 2 ^ 32) ⌝ }
-    ensures { λ r. ⌜ r ≡ plainWord (repaired (now (capture .entry))) e ⌝ }
-{
-    scrambling::element(scr, e, element(t, positions, capture, e))
-}
-
 // The 119 bits of a, and then the first nine of b in place of the check bits: no byte of a super frame reaches further.
 fn follow(a: [u8; 16], b: [u8; 16]) -> [u8; 16]
     ensures { λ r. ⌜ r ≡ followed a b ⌝ }
 {
     let p = bits::wide(b[0]) * 2 + bits::wide(b[1]) / 128;
     hamming::join(a, p as u16)
+}
+
+// The bits of v from bit i on, and zeros: with a byte behind them none has to be tested.
+fn from_bit(v: [u8; 16], i: usize) -> [u8; 16]
+    requires { ⌜ i < 8 ⌝ }
+    ensures { λ r. ⌜ r ≡ pack wordBytes (fromIndex (bitAt v) i) ⌝ }
+{
+    let mut w = [0u8; 17];
+    for k in 0..sizes::WORD_BYTES {
+        w[k] = v[k];
+    }
+    bits_copy::word_from(&w, i)
+}
+
+// The bytes that begin in an element: one more than fourteen, but for each eighth.
+fn put_bytes(v: [u8; 16], out: &mut [u8])
+    requires { ⌜ (14 ≤ length (now out)) × (length (now out) ≤ 15) ⌝ }
+    ensures { λ _. ⌜ now (out .exit) ≡ tabulate (length (now (out .entry))) (λ k. getD v k 0) ⌝ }
+{
+    for k in 0..14usize {
+        out[k] = v[k];
+    }
+    if 14 < out.len() {
+        out[14] = v[14];
+    }
 }
 
 // The bytes of super frame f, descrambled. Element l has 119 bits: it begins l mod 8 bits before its first whole byte.
@@ -267,14 +278,13 @@ fn frame(
     requires { ⌜ Tables (now t) (now positions) × (now scr ≡ onePeriod) × (f < 8) × (length (now out) ≡ superBytes) ⌝ }
     ensures { λ _. ⌜ now (out .exit) ≡ frameOf (now (capture .entry)) f ⌝ }
 {
-    let first = sizes::SUPER_ELEMENTS * f;
-    let mut here = plain_word(t, positions, scr, capture, first);
+    let mut here = element(t, positions, capture, sizes::SUPER_ELEMENTS * f);
     for l in 0..sizes::SUPER_ELEMENTS {
-        let next = plain_word(t, positions, scr, capture, first + (l + 1));
+        let next = element(t, positions, capture, sizes::SUPER_ELEMENTS * f + (l + 1));
         let a = 15 * l - l / 8;
         let e = 15 * (l + 1) - (l + 1) / 8;
-        let v = follow(here, next);
-        bits_copy::copy(&v, l % 8, &mut out[a..e]);
+        let v = from_bit(follow(here, next), l % 8);
+        put_bytes(scrambling::add(scr, 8 * a, v), &mut out[a..e]);
         here = next;
     }
 }

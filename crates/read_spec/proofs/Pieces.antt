@@ -32,6 +32,17 @@ nine-of b h =
     (ap (λ (x : ℕ). x / 128) (sym (num-bitOf 8 b 1 (h 1))) ∙ num-front 1 7 (bitAt b) 8 (bitOf-lt 8 b))
     ∙ sym (num-split 8 1 (bitAt b) 0)
 
+-- the bits of a word from bit i on, out of its bytes and one of zeros
+pub zero-byte-behind : (v w d : List ℕ) (i : ℕ) → i < 8 → length v ≡ wordBytes → Filled wordBytes (λ k. getD v k 0) d w → getD d wordBytes 0 ≡ 0
+    → pack wordBytes (fromIndex (bitAt w) i) ≡ pack wordBytes (fromIndex (bitAt v) i)
+unfolding bitOf
+zero-byte-behind v w d i h len e z =
+    packs-ext 8 wordBytes (fromIndex (bitAt w) i) (fromIndex (bitAt v) i) (λ j l. ap (λ (x : ℕ). digit 8 x ((i + j) % 8)) (by ((i + j) / 8) (omega arith)))
+  where
+    by : (k : ℕ) → k ≤ wordBytes → getD w k 0 ≡ getD v k 0
+    by k m =
+        ⊎-elim (λ q. rw q (filled-here 0 e ∙ z ∙ sym (List·getD-eq-default v 0 (omega arith)))) (λ l. filled-at 0 e l) (eq-or-lt-of-le m)
+
 -- thirty-two bits, out of the first four bytes of the bits from a on
 pub long-of : (f : ℕ → ℕ) (a : ℕ) (w : List ℕ) → w ≡ pack wordBytes (fromIndex f a)
     → ((getD w 0 0 * 256 + getD w 1 0) * 256 + getD w 2 0) * 256 + getD w 3 0 ≡ num 32 f a

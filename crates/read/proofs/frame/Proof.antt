@@ -1,47 +1,52 @@
 -- `read::frame` meets its contract: before element l the bytes that begin in the elements before it are there. Assumes nothing.
 use Prim.Native.Nat.{ℕ, _%_, _+_, _-_, _*_, _≤_}
+use mathlib.Core.List.{List}
 use mathlib.Core.Path.{refl, ap, ap₂, _≡_, _∙_}
 use native.Mathlib.Omega.{arith}
 use denote.Ref.{now}
-use lib.ListN.{take, drop, length}
+use lib.ListN.{take, drop, length, getD}
 use borrow.Author.Needs.{needs}
 use Rattle.prelude.specs.Lists.{fromIndex}
-use Rattle.bits.specs.Bits.{bitAt, byteOf}
+use Rattle.bits.specs.Bits.{bitAt, byteOf, pack}
 use Rattle.prelude.proofs.Lists.{Filled, filled-none, filled-all, part-long}
-use Rattle.sizes.specs.Sizes.{superBytes, superElements}
+use Rattle.sizes.specs.Sizes.{superBytes, superElements, wordBytes}
+use Rattle.line.specs.Slots.{slotOf}
 use Rattle.line.specs.Words.{superIn}
 use Rattle.read_spec.specs.Read.{repaired}
-use Rattle.read_spec.specs.Steps.{followed, plainWord, firstWholeByte}
+use Rattle.read_spec.specs.Steps.{followed, firstWholeByte}
 use Rattle.read_spec.proofs.Places.{element-byte, bytes-filled}
 use Rattle.read.proofs.frame.Statement.{statement}
 use Rattle.read.proofs.frame.Tie as tie
 
 abbrev Inv-loop : tie.InvT-loop
-Inv-loop t positions scr capture f out₀ first here₀ l₀ out here l = Filled (firstWholeByte l) (byteOf (superIn (repaired capture) f)) out₀ out
-    × (here ≡ plainWord (repaired capture) (superElements * f + l)) × (l ≤ superElements)
+Inv-loop t positions scr capture f out₀ here₀ l₀ out here l = Filled (firstWholeByte l) (byteOf (superIn (repaired capture) f)) out₀ out
+    × (here ≡ repaired capture (slotOf (superElements * f + l))) × (l ≤ superElements)
 
 abbrev μ-loop : tie.MeasureT-loop
-μ-loop t positions scr capture f out₀ first here₀ l₀ out here l = superElements - l
+μ-loop t positions scr capture f out₀ here₀ l₀ out here l = superElements - l
 
-mul-first : tie.Need-mul-first Inv-loop μ-loop
-mul-first c = search needs
+mul-element : tie.Need-mul-element Inv-loop μ-loop
+mul-element c = search needs
 
-plain-word-requires : tie.Need-plain-word-requires Inv-loop μ-loop
-plain-word-requires c κs = search needs
+element-requires : tie.Need-element-requires Inv-loop μ-loop
+element-requires c κs = search needs
 
 loop-holds : tie.Need-loop-holds Inv-loop μ-loop
 loop-holds c =
     let entry = c .before .before .before in
-    (filled-none, c .plain-word .ensures ∙ ap (plainWord (repaired (now (entry .args .capture)))) (omega arith), omega arith)
+    (filled-none, c .element .ensures ∙ ap (λ (e : ℕ). repaired (now (entry .args .capture)) (slotOf e)) (omega arith), omega arith)
 
-add-plain-word : tie.Need-add-plain-word Inv-loop μ-loop
-add-plain-word c = search needs
+mul-element-2 : tie.Need-mul-element-2 Inv-loop μ-loop
+mul-element-2 c = search needs
 
-add-plain-word-2 : tie.Need-add-plain-word-2 Inv-loop μ-loop
-add-plain-word-2 c = search needs
+add-element : tie.Need-add-element Inv-loop μ-loop
+add-element c = search needs
 
-plain-word-requires-2 : tie.Need-plain-word-requires-2 Inv-loop μ-loop
-plain-word-requires-2 c κs = search needs
+add-element-2 : tie.Need-add-element-2 Inv-loop μ-loop
+add-element-2 c = search needs
+
+element-requires-2 : tie.Need-element-requires-2 Inv-loop μ-loop
+element-requires-2 c κs = search needs
 
 mul-a : tie.Need-mul-a Inv-loop μ-loop
 mul-a c = search needs
@@ -64,20 +69,26 @@ sub-e c = search needs
 follow-requires : tie.Need-follow-requires Inv-loop μ-loop
 follow-requires c κs = search needs
 
-slice-aggregate-copy : tie.Need-slice-aggregate-copy Inv-loop μ-loop
-slice-aggregate-copy c = search needs
+from-bit-requires : tie.Need-from-bit-requires Inv-loop μ-loop
+from-bit-requires c κs = search needs
 
-sub-copy : tie.Need-sub-copy Inv-loop μ-loop
-sub-copy c = search needs
+mul-add : tie.Need-mul-add Inv-loop μ-loop
+mul-add c = search needs
 
-part-copy-start : tie.Need-part-copy-start Inv-loop μ-loop
-part-copy-start c = search needs
+add-requires : tie.Need-add-requires Inv-loop μ-loop
+add-requires c κs = search needs
 
-part-copy-end : tie.Need-part-copy-end Inv-loop μ-loop
-part-copy-end c = search needs
+sub-put-bytes : tie.Need-sub-put-bytes Inv-loop μ-loop
+sub-put-bytes c = search needs
 
-copy-requires : tie.Need-copy-requires Inv-loop μ-loop
-copy-requires c κs = search needs
+part-put-bytes-start : tie.Need-part-put-bytes-start Inv-loop μ-loop
+part-put-bytes-start c = search needs
+
+part-put-bytes-end : tie.Need-part-put-bytes-end Inv-loop μ-loop
+part-put-bytes-end c = search needs
+
+put-bytes-requires : tie.Need-put-bytes-requires Inv-loop μ-loop
+put-bytes-requires c κs = search needs
 
 add-l : tie.Need-add-l Inv-loop μ-loop
 add-l c = search needs
@@ -87,21 +98,27 @@ loop-less c = search needs
 
 loop-again : tie.Need-loop-again Inv-loop μ-loop
 loop-again c =
-    let at-follow = c .before .before .before .before .before in
-    let at-next = at-follow .before in
-    let at-loop-test = at-next .before in
+    let at-add = c .before .before .before .before in
+    let at-from = at-add .before in
+    let at-follow = at-from .before in
+    let at-element = at-follow .before in
+    let at-loop-test = at-element .before in
     let at-loop = at-loop-test .before in
+    let s = at-loop .before .before .before .before in
     let h = at-loop .loop in
-    let a = at-loop .before .before .before .before .args in
+    let a = s .args in
     let k = firstWholeByte (h .l + 1) - firstWholeByte (h .l) in
     let cap = now (a .capture) in
-    let v = at-follow .follow in
-    let next = at-next .plain-word2 .ensures in
+    let u = at-from .from-bit in
+    let x = at-add .add in
+    let e = at-element .element2 .ensures in
     let len : length (take k (drop (firstWholeByte (h .l)) (h .out))) ≡ k = part-long (firstWholeByte (h .l)) k (h .out) (omega arith) in (
-      bytes-filled k (firstWholeByte (h .l + 1)) (length (take k (drop (firstWholeByte (h .l)) (h .out)))) (byteOf (fromIndex (bitAt (v .result)) (h .l % 8)))
-          (h .inv .0) (omega arith) (omega arith) len (c .before .before .copy .ensures)
-          (λ j m. element-byte (repaired cap) (v .result) (a .f) (h .l) k j (v .ensures ∙ ap₂ followed (h .inv .1) next) (at-loop-test .loop-test .taken) refl m),
-      next,
+      bytes-filled k (firstWholeByte (h .l + 1)) (length (take k (drop (firstWholeByte (h .l)) (h .out)))) (λ j. getD (x .result) j 0)
+          (h .inv .0) (omega arith) (omega arith) len (c .before .before .put-bytes .ensures)
+          (λ j m. element-byte (repaired cap) (now (a .scr)) (u .result) (x .result) (a .f) (h .l) k j (s .pre .1)
+          (u .ensures ∙ ap (λ (v : List ℕ). pack wordBytes (fromIndex (bitAt v) (h .l % 8))) (at-follow .follow .ensures ∙ ap₂ followed (h .inv .1) e))
+          (x .ensures) refl m),
+      e,
       omega arith,
     )
 
@@ -114,5 +131,4 @@ returns c = filled-all superBytes (c .before .loop .inv .0) (omega arith) (searc
 pub frame-spec : {M : Type 1} → statement M
 frame-spec =
     tie.close
-    (tie.spec Inv-loop μ-loop mul-first plain-word-requires loop-holds add-plain-word add-plain-word-2 plain-word-requires-2 mul-a sub-a add-e mul-e
-    add-e-2 sub-e follow-requires slice-aggregate-copy sub-copy part-copy-start part-copy-end copy-requires add-l loop-less loop-again same-length returns)
+    (tie.spec Inv-loop μ-loop mul-element element-requires loop-holds mul-element-2 add-element add-element-2 element-requires-2 mul-a sub-a add-e mul-e add-e-2 sub-e follow-requires from-bit-requires mul-add add-requires sub-put-bytes part-put-bytes-start part-put-bytes-end put-bytes-requires add-l loop-less loop-again same-length returns)
