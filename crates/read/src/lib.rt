@@ -25,7 +25,7 @@ ghost use Rattle.line.specs.Slots.{slotOf, holds};
 ghost use Rattle.line_order.specs.Order.{wordIn};
 ghost use Rattle.line.specs.Words.{fecIn};
 ghost use Rattle.read_spec.specs.Read.{repaired, allZero, readAnswer, readLeaves};
-ghost use Rattle.read_spec.specs.Steps.{AcceptedRead, OneIf, Tables, soughtOf, wordsTo, frameOf, followed, mbasOff, crcOff, padOff};
+ghost use Rattle.read_spec.specs.Steps.{AcceptedRead, OneIf, Tables, soughtOf, wordsTo, frameOf, followed, plainWord, mbasOff, crcOff, padOff};
 ghost use Rattle.read_spec.specs.Steps.{blockTaken, framesTo, infoIn, parityIn, lateAnswer, lateLeaves};
 
 // The pad in whole bytes.
@@ -233,6 +233,20 @@ fn element(t: &[u16; 4096], positions: &[u8; 512], capture: &[u8], e: usize) -> 
     r.word
 }
 
+// The same, descrambled.
+fn plain_word(
+    t: &[u16; 4096],
+    positions: &[u8; 512],
+    scr: &[u8; scrambling::PERIOD_BYTES],
+    capture: &[u8],
+    e: usize,
+) -> [u8; 16]
+    requires { ⌜ Tables (now t) (now positions) × (now scr ≡ onePeriod) × (e < 2 ^ 32) ⌝ }
+    ensures { λ r. ⌜ r ≡ plainWord (repaired (now (capture .entry))) e ⌝ }
+{
+    scrambling::element(scr, e, element(t, positions, capture, e))
+}
+
 // The 119 bits of a, and then the first nine of b in place of the check bits: no byte of a super frame reaches further.
 fn follow(a: [u8; 16], b: [u8; 16]) -> [u8; 16]
     ensures { λ r. ⌜ r ≡ followed a b ⌝ }
@@ -278,13 +292,13 @@ fn frame(
     requires { ⌜ Tables (now t) (now positions) × (now scr ≡ onePeriod) × (f < 8) × (length (now out) ≡ superBytes) ⌝ }
     ensures { λ _. ⌜ now (out .exit) ≡ frameOf (now (capture .entry)) f ⌝ }
 {
-    let mut here = element(t, positions, capture, sizes::SUPER_ELEMENTS * f);
+    let first = sizes::SUPER_ELEMENTS * f;
+    let mut here = plain_word(t, positions, scr, capture, first);
     for l in 0..sizes::SUPER_ELEMENTS {
-        let next = element(t, positions, capture, sizes::SUPER_ELEMENTS * f + (l + 1));
+        let next = plain_word(t, positions, scr, capture, first + (l + 1));
         let a = 15 * l - l / 8;
         let e = 15 * (l + 1) - (l + 1) / 8;
-        let v = from_bit(follow(here, next), l % 8);
-        put_bytes(scrambling::add(scr, 8 * a, v), &mut out[a..e]);
+        put_bytes(from_bit(follow(here, next), l % 8), &mut out[a..e]);
         here = next;
     }
 }

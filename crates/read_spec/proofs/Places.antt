@@ -11,10 +11,9 @@ use Rattle.bits.specs.Bits.{num, bitAt, byteOf, pack, added, Bits}
 use Rattle.prelude.proofs.Common.{by-bound}
 use Rattle.prelude.proofs.Lists.{getD-tabulate, tabulate-ext, Filled, filled-block}
 use Rattle.bits.proofs.Numbers.{num-ext, digit-num}
-use Rattle.bits.proofs.Packing.{bitOf-lt, bitOf-packs}
+use Rattle.bits.proofs.Packing.{bitOf-lt, bitOf-packs, packs-ext}
 use Rattle.scrambler.specs.Scrambler.{o}
-use Rattle.scrambler.specs.Steps.{period}
-use Rattle.scrambling.specs.Scrambling.{onePeriod}
+use Rattle.scrambling.specs.Scrambling.{onePeriod, framePlace, periodPlace}
 use Rattle.scrambling.proofs.Adding.{sequence-from}
 use Rattle.hamming.specs.Code.{joined}
 use Rattle.hamming.proofs.Words.{joined-low, joined-high, joined-bit}
@@ -24,7 +23,7 @@ use Rattle.line.specs.Frames.{superFrom, fecFrom}
 use Rattle.line.specs.Slots.{slotOf}
 use Rattle.line.specs.Words.{elementFrom, superIn, fecIn}
 use Rattle.read_spec.specs.Read.{repaired}
-use Rattle.read_spec.specs.Steps.{frameOf, firstWholeByte, followed, infoIn, parityIn}
+use Rattle.read_spec.specs.Steps.{frameOf, firstWholeByte, followed, plainWord, infoIn, parityIn}
 
 -- ---- bits
 
@@ -48,43 +47,53 @@ followed-high a b x l h =
 
 -- ---- a super frame out of its elements
 
+-- the word of element e, with the sequence added
+pub word-descrambled : (W : ℕ → List ℕ) (scr v r : List ℕ) (e : ℕ) → scr ≡ onePeriod → v ≡ W (slotOf e)
+    → r ≡ pack wordBytes (added (bitAt v) (fromIndex (bitAt scr) (periodPlace e))) → r ≡ plainWord W e
+word-descrambled W scr v r e p q h =
+    h ∙ packs-ext 8 wordBytes (added (bitAt v) (fromIndex (bitAt scr) (periodPlace e))) (λ i. (bitAt (W (slotOf e)) i + o (framePlace e + i)) % 2)
+    (λ i l. ap₂ (λ (s : List ℕ) (y : ℕ). (bitAt s i + y) % 2) q (sequence-from scr (framePlace e) i p l))
+
 module _ (W : ℕ → List ℕ) (f l : ℕ) where
   abbrev pair : List ℕ
-  pair = followed (W (slotOf (superElements * f + l))) (W (slotOf (superElements * f + (l + 1))))
+  pair = followed (plainWord W (superElements * f + l)) (plainWord W (superElements * f + (l + 1)))
 
-  -- the 128 bits from the first bit of element l on: 119 of its word, nine of the next one's
-  super-bit : (x : ℕ) → x < wordBits → superIn W f (elementBits * l + x) ≡ (bitAt pair x + o (elementBits * l + x)) % 2
+  plain-bit : (e x k : ℕ) → x < wordBits → framePlace e + x ≡ k → bitAt (plainWord W e) x ≡ (bitAt (W (slotOf e)) x + o k) % 2
+  plain-bit e x k h p =
+      bitOf-packs 8 wordBytes (λ i. (bitAt (W (slotOf e)) i + o (framePlace e + i)) % 2) x (λ i. omega arith) h
+      ∙ ap (λ (y : ℕ). (bitAt (W (slotOf e)) x + o y) % 2) p
+
+  -- the 128 bits from the first bit of element l on, as far as the super frame goes: 119 of its word, nine of the next one's
+  super-bit : (x : ℕ) → x < wordBits → l < superElements → elementBits * l + x < superBits → bitAt pair x ≡ superIn W f (elementBits * l + x)
   unfolding superIn superFrom elementFrom
-  super-bit x h = by-bound elementBits x low high
+  super-bit x h m n = by-bound elementBits x low high
     where
-      low : x < elementBits → superIn W f (elementBits * l + x) ≡ (bitAt pair x + o (elementBits * l + x)) % 2
-      low m =
+      low : x < elementBits → bitAt pair x ≡ superIn W f (elementBits * l + x)
+      low i =
           let p : (elementBits * l + x) / elementBits ≡ l = omega arith in
           let q : (elementBits * l + x) % elementBits ≡ x = omega arith in
-          rw (p, q, followed-low (W (slotOf (superElements * f + l))) (W (slotOf (superElements * f + (l + 1)))) x m)
+          rw (p, q)
+          (followed-low (plainWord W (superElements * f + l)) (plainWord W (superElements * f + (l + 1))) x i
+          ∙ plain-bit (superElements * f + l) x (elementBits * l + x) h (omega arith))
 
-      high : elementBits ≤ x → superIn W f (elementBits * l + x) ≡ (bitAt pair x + o (elementBits * l + x)) % 2
-      high m =
+      high : elementBits ≤ x → bitAt pair x ≡ superIn W f (elementBits * l + x)
+      high i =
           let p : (elementBits * l + x) / elementBits ≡ l + 1 = omega arith in
           let q : (elementBits * l + x) % elementBits ≡ x - elementBits = omega arith in
-          rw (p, q, followed-high (W (slotOf (superElements * f + l))) (W (slotOf (superElements * f + (l + 1)))) x m h)
+          rw (p, q)
+          (followed-high (plainWord W (superElements * f + l)) (plainWord W (superElements * f + (l + 1))) x i h
+          ∙ plain-bit (superElements * f + (l + 1)) (x - elementBits) (elementBits * l + x) (omega arith) (omega arith))
 
--- byte k of those that begin in element l, as the code makes it: the bytes u of the element's word and the next one's, and the sequence added
-pub element-byte : (W : ℕ → List ℕ) (scr u x : List ℕ) (f l n k : ℕ) → scr ≡ onePeriod → u ≡ pack wordBytes (fromIndex (bitAt (pair W f l)) (l % 8))
-    → x ≡ pack wordBytes (added (bitAt u) (fromIndex (bitAt scr) (8 * firstWholeByte l % period))) → n ≡ firstWholeByte (l + 1) - firstWholeByte l → k < n
+-- byte k of those that begin in element l, out of the bytes x of the element's word and the next one's
+pub element-byte : (W : ℕ → List ℕ) (x : List ℕ) (f l n k : ℕ) → x ≡ pack wordBytes (fromIndex (bitAt (pair W f l)) (l % 8)) → l < superElements
+    → n ≡ firstWholeByte (l + 1) - firstWholeByte l → k < n
     → getD x k 0 ≡ byteOf (superIn W f) (firstWholeByte l + k)
-element-byte W scr u x f l n k es eu ex en h =
-    ap (λ (s : List ℕ). getD s k 0) ex
-    ∙ getD-tabulate 0 wordBytes (byteOf (added (bitAt u) (fromIndex (bitAt scr) (8 * firstWholeByte l % period)))) k (omega arith)
-    ∙ num-ext 8 (added (bitAt u) (fromIndex (bitAt scr) (8 * firstWholeByte l % period))) (superIn W f) (8 * k) (8 * (firstWholeByte l + k))
+element-byte W x f l n k ex hl en h =
+    ap (λ (s : List ℕ). getD s k 0) ex ∙ getD-tabulate 0 wordBytes (byteOf (fromIndex (bitAt (pair W f l)) (l % 8))) k (omega arith)
+    ∙ num-ext 8 (fromIndex (bitAt (pair W f l)) (l % 8)) (superIn W f) (8 * k) (8 * (firstWholeByte l + k))
     (λ j m.
-    let p : elementBits * l + (l % 8 + (8 * k + j)) ≡ 8 * (15 * l - l / 8 + k) + j = omega arith in
-    let q : 8 * (15 * l - l / 8) + (8 * k + j) ≡ elementBits * l + (l % 8 + (8 * k + j)) = omega arith in
-    ap₂ (λ (y z : ℕ). (y + z) % 2)
-    (ap (λ (s : List ℕ). bitAt s (8 * k + j)) eu
-    ∙ bitOf-packs 8 wordBytes (fromIndex (bitAt (pair W f l)) (l % 8)) (8 * k + j) (λ i. bitOf-lt 8 (pair W f l) (l % 8 + i)) (omega arith))
-    (sequence-from scr (8 * firstWholeByte l) (8 * k + j) es (omega arith) ∙ ap o q)
-    ∙ sym (super-bit W f l (l % 8 + (8 * k + j)) (omega arith)) ∙ ap (superIn W f) p)
+    let q : elementBits * l + (l % 8 + (8 * k + j)) ≡ 8 * (15 * l - l / 8 + k) + j = omega arith in
+    super-bit W f l (l % 8 + (8 * k + j)) (omega arith) hl (omega arith) ∙ ap (superIn W f) q)
 
 -- ---- FEC blocks in a super frame
 

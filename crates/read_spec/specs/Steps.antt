@@ -14,13 +14,16 @@ use Rattle.answer.specs.Rows.{done, refused}
 use Rattle.answer.specs.Outcomes.{written}
 use Rattle.answer.specs.declared.Answer.{Answer}
 use Rattle.crc.specs.Crc.{crcOf}
+use Rattle.scrambler.specs.Scrambler.{o}
+use Rattle.scrambling.specs.Scrambling.{framePlace}
 use Rattle.hamming.specs.Code.{joinedWord}
 use Rattle.hamming_matrix.specs.Steps.{positionTable}
 use Rattle.hamming_table.specs.Steps.{byteTable}
 use Rattle.sizes.specs.Sizes.{infoBits, crcBits, mbasBits, parityBits, mbasFrom, parityFrom, fecBits, fecBlocks, padFrom, padBits, superBytes, infoLength}
-use Rattle.sizes.specs.Sizes.{parityLength, captureLength, words, mostFrames, checkBits}
+use Rattle.sizes.specs.Sizes.{parityLength, captureLength, words, mostFrames, checkBits, wordBytes}
 use Rattle.line.specs.Fec.{mbasOf}
 use Rattle.line.specs.Frames.{infoOf, parityOf}
+use Rattle.line.specs.Slots.{slotOf}
 use Rattle.line.specs.Words.{superIn, fecIn}
 use Rattle.read_spec.specs.Read.{repaired, isBeyond, isFilled, mbasDiffers, crcDiffers, padDiffers, isSeen}
 use Rattle.read_spec.specs.declared.WordTally.{WordTally}
@@ -68,6 +71,10 @@ firstWholeByte l = 15 * l - l / 8
 -- an element's 119 bits, and the first nine of the one after it
 abbrev pub followed : List ℕ → List ℕ → List ℕ
 followed a b = joinedWord (bitAt a) (num checkBits (bitAt b) 0)
+
+-- the word of element e of the words W, descrambled
+abbrev pub plainWord : (ℕ → List ℕ) → ℕ → List ℕ
+plainWord W e = pack wordBytes (λ i. (bitAt (W (slotOf e)) i + o (framePlace e + i)) % 2)
 
 -- ---- its FEC blocks, out of its bytes s; block b of the super frame is block t of the capture
 

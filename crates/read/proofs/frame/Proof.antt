@@ -10,43 +10,39 @@ use Rattle.prelude.specs.Lists.{fromIndex}
 use Rattle.bits.specs.Bits.{bitAt, byteOf, pack}
 use Rattle.prelude.proofs.Lists.{Filled, filled-none, filled-all, part-long}
 use Rattle.sizes.specs.Sizes.{superBytes, superElements, wordBytes}
-use Rattle.line.specs.Slots.{slotOf}
 use Rattle.line.specs.Words.{superIn}
 use Rattle.read_spec.specs.Read.{repaired}
-use Rattle.read_spec.specs.Steps.{followed, firstWholeByte}
+use Rattle.read_spec.specs.Steps.{followed, plainWord, firstWholeByte}
 use Rattle.read_spec.proofs.Places.{element-byte, bytes-filled}
 use Rattle.read.proofs.frame.Statement.{statement}
 use Rattle.read.proofs.frame.Tie as tie
 
 abbrev Inv-loop : tie.InvT-loop
-Inv-loop t positions scr capture f out₀ here₀ l₀ out here l = Filled (firstWholeByte l) (byteOf (superIn (repaired capture) f)) out₀ out
-    × (here ≡ repaired capture (slotOf (superElements * f + l))) × (l ≤ superElements)
+Inv-loop t positions scr capture f out₀ first here₀ l₀ out here l = Filled (firstWholeByte l) (byteOf (superIn (repaired capture) f)) out₀ out
+    × (here ≡ plainWord (repaired capture) (superElements * f + l)) × (l ≤ superElements)
 
 abbrev μ-loop : tie.MeasureT-loop
-μ-loop t positions scr capture f out₀ here₀ l₀ out here l = superElements - l
+μ-loop t positions scr capture f out₀ first here₀ l₀ out here l = superElements - l
 
-mul-element : tie.Need-mul-element Inv-loop μ-loop
-mul-element c = search needs
+mul-first : tie.Need-mul-first Inv-loop μ-loop
+mul-first c = search needs
 
-element-requires : tie.Need-element-requires Inv-loop μ-loop
-element-requires c κs = search needs
+plain-word-requires : tie.Need-plain-word-requires Inv-loop μ-loop
+plain-word-requires c κs = search needs
 
 loop-holds : tie.Need-loop-holds Inv-loop μ-loop
 loop-holds c =
     let entry = c .before .before .before in
-    (filled-none, c .element .ensures ∙ ap (λ (e : ℕ). repaired (now (entry .args .capture)) (slotOf e)) (omega arith), omega arith)
+    (filled-none, c .plain-word .ensures ∙ ap (plainWord (repaired (now (entry .args .capture)))) (omega arith), omega arith)
 
-mul-element-2 : tie.Need-mul-element-2 Inv-loop μ-loop
-mul-element-2 c = search needs
+add-plain-word : tie.Need-add-plain-word Inv-loop μ-loop
+add-plain-word c = search needs
 
-add-element : tie.Need-add-element Inv-loop μ-loop
-add-element c = search needs
+add-plain-word-2 : tie.Need-add-plain-word-2 Inv-loop μ-loop
+add-plain-word-2 c = search needs
 
-add-element-2 : tie.Need-add-element-2 Inv-loop μ-loop
-add-element-2 c = search needs
-
-element-requires-2 : tie.Need-element-requires-2 Inv-loop μ-loop
-element-requires-2 c κs = search needs
+plain-word-requires-2 : tie.Need-plain-word-requires-2 Inv-loop μ-loop
+plain-word-requires-2 c κs = search needs
 
 mul-a : tie.Need-mul-a Inv-loop μ-loop
 mul-a c = search needs
@@ -72,12 +68,6 @@ follow-requires c κs = search needs
 from-bit-requires : tie.Need-from-bit-requires Inv-loop μ-loop
 from-bit-requires c κs = search needs
 
-mul-add : tie.Need-mul-add Inv-loop μ-loop
-mul-add c = search needs
-
-add-requires : tie.Need-add-requires Inv-loop μ-loop
-add-requires c κs = search needs
-
 sub-put-bytes : tie.Need-sub-put-bytes Inv-loop μ-loop
 sub-put-bytes c = search needs
 
@@ -98,27 +88,26 @@ loop-less c = search needs
 
 loop-again : tie.Need-loop-again Inv-loop μ-loop
 loop-again c =
-    let at-add = c .before .before .before .before in
-    let at-from = at-add .before in
+    let at-from = c .before .before .before .before in
     let at-follow = at-from .before in
-    let at-element = at-follow .before in
-    let at-loop-test = at-element .before in
+    let at-next = at-follow .before in
+    let at-loop-test = at-next .before in
     let at-loop = at-loop-test .before in
-    let s = at-loop .before .before .before .before in
     let h = at-loop .loop in
+    let s = at-loop .before .before .before .before in
     let a = s .args in
     let k = firstWholeByte (h .l + 1) - firstWholeByte (h .l) in
     let cap = now (a .capture) in
-    let u = at-from .from-bit in
-    let x = at-add .add in
-    let e = at-element .element2 .ensures in
-    let len : length (take k (drop (firstWholeByte (h .l)) (h .out))) ≡ k = part-long (firstWholeByte (h .l)) k (h .out) (omega arith) in (
+    let x = at-from .from-bit in
+    let next = at-next .plain-word2 .ensures in
+    let len : length (take k (drop (firstWholeByte (h .l)) (h .out))) ≡ k = part-long (firstWholeByte (h .l)) k (h .out)
+    (omega (arith, h .inv .0 .len, s .pre .3, at-loop-test .loop-test .taken)) in (
       bytes-filled k (firstWholeByte (h .l + 1)) (length (take k (drop (firstWholeByte (h .l)) (h .out)))) (λ j. getD (x .result) j 0)
-          (h .inv .0) (omega arith) (omega arith) len (c .before .before .put-bytes .ensures)
-          (λ j m. element-byte (repaired cap) (now (a .scr)) (u .result) (x .result) (a .f) (h .l) k j (s .pre .1)
-          (u .ensures ∙ ap (λ (v : List ℕ). pack wordBytes (fromIndex (bitAt v) (h .l % 8))) (at-follow .follow .ensures ∙ ap₂ followed (h .inv .1) e))
-          (x .ensures) refl m),
-      e,
+          (h .inv .0) (omega arith) (omega (arith, s .pre .3, at-loop-test .loop-test .taken)) len (c .before .before .put-bytes .ensures)
+          (λ j m. element-byte (repaired cap) (x .result) (a .f) (h .l) k j
+          (x .ensures ∙ ap (λ (v : List ℕ). pack wordBytes (fromIndex (bitAt v) (h .l % 8))) (at-follow .follow .ensures ∙ ap₂ followed (h .inv .1) next))
+          (at-loop-test .loop-test .taken) refl m),
+      next,
       omega arith,
     )
 
@@ -131,4 +120,4 @@ returns c = filled-all superBytes (c .before .loop .inv .0) (omega arith) (searc
 pub frame-spec : {M : Type 1} → statement M
 frame-spec =
     tie.close
-    (tie.spec Inv-loop μ-loop mul-element element-requires loop-holds mul-element-2 add-element add-element-2 element-requires-2 mul-a sub-a add-e mul-e add-e-2 sub-e follow-requires from-bit-requires mul-add add-requires sub-put-bytes part-put-bytes-start part-put-bytes-end put-bytes-requires add-l loop-less loop-again same-length returns)
+    (tie.spec Inv-loop μ-loop mul-first plain-word-requires loop-holds add-plain-word add-plain-word-2 plain-word-requires-2 mul-a sub-a add-e mul-e add-e-2 sub-e follow-requires from-bit-requires sub-put-bytes part-put-bytes-start part-put-bytes-end put-bytes-requires add-l loop-less loop-again same-length returns)
