@@ -18,14 +18,13 @@ ghost use Rattle.hamming.specs.Code.{checksOf};
 ghost use Rattle.hamming_matrix.specs.Steps.{positionTable};
 ghost use Rattle.hamming_table.specs.Steps.{byteTable};
 ghost use Rattle.hamming.specs.Repair.{repairOf};
-ghost use Rattle.scrambling.specs.Scrambling.{onePeriod};
 ghost use Rattle.sizes.specs.Sizes.{infoBits, fecBits, fecBlocks, superBytes, infoLength, parityLength, words, mostFrames, wordBytes};
 ghost use Rattle.line.specs.Frames.{infoOf, parityOf};
 ghost use Rattle.line.specs.Slots.{slotOf, holds};
 ghost use Rattle.line_order.specs.Order.{wordIn};
 ghost use Rattle.line.specs.Words.{fecIn};
 ghost use Rattle.read_spec.specs.Read.{repaired, allZero, readAnswer, readLeaves};
-ghost use Rattle.read_spec.specs.Steps.{AcceptedRead, OneIf, Tables, soughtOf, wordsTo, frameOf, followed, plainWord, mbasOff, crcOff, padOff};
+ghost use Rattle.read_spec.specs.Steps.{AcceptedRead, OneIf, Tables, sequence, soughtOf, wordsTo, frameOf, followed, receivedIn, mbasOff, crcOff, padOff};
 ghost use Rattle.read_spec.specs.Steps.{blockTaken, framesTo, infoIn, parityIn, lateAnswer, lateLeaves};
 
 // The pad in whole bytes.
@@ -59,8 +58,7 @@ fn read_accepted(n: usize, m0: u64, capture: &[u8], info: &mut [u8], parity: &mu
 {
     let t = hamming_table::byte_table();
     let positions = hamming_matrix::position_table();
-    let mut scr = [0u8; scrambling::PERIOD_BYTES];
-    scrambler::fill(&mut scr);
+    let scr = scrambler::sequence();
     let mut buffer = blank();
     read_by(
         &t,
@@ -84,7 +82,7 @@ fn blank() -> [u8; sizes::SUPER_BYTES] {
 fn read_by(
     t: &[u16; 4096],
     positions: &[u8; 512],
-    scr: &[u8; scrambling::PERIOD_BYTES],
+    scr: &[u8],
     n: usize,
     m0: u64,
     capture: &[u8],
@@ -92,7 +90,7 @@ fn read_by(
     info: &mut [u8],
     parity: &mut [u8],
 ) -> Answer
-    requires { ⌜ Tables (now t) (now positions) × (now scr ≡ onePeriod) × (length (now buffer) ≡ superBytes)
+    requires { ⌜ Tables (now t) (now positions) × (now scr ≡ sequence) × (length (now buffer) ≡ superBytes)
         × AcceptedRead n (now capture) (now info) (now parity) ⌝ }
     ensures { λ r. ⌜ Outcome (lateAnswer n m0 (now (capture .entry))) (lateLeaves n m0 (now (capture .entry)) (now (info .entry)) (now (parity .entry))) r
         (now (info .exit), now (parity .exit)) ⌝ }
@@ -233,20 +231,6 @@ fn element(t: &[u16; 4096], positions: &[u8; 512], capture: &[u8], e: usize) -> 
     r.word
 }
 
-// The same, descrambled.
-fn plain_word(
-    t: &[u16; 4096],
-    positions: &[u8; 512],
-    scr: &[u8; scrambling::PERIOD_BYTES],
-    capture: &[u8],
-    e: usize,
-) -> [u8; 16]
-    requires { ⌜ Tables (now t) (now positions) × (now scr ≡ onePeriod) × (e < 2 ^ 32) ⌝ }
-    ensures { λ r. ⌜ r ≡ plainWord (repaired (now (capture .entry))) e ⌝ }
-{
-    scrambling::element(scr, e, element(t, positions, capture, e))
-}
-
 // The 119 bits of a, and then the first nine of b in place of the check bits: no byte of a super frame reaches further.
 fn follow(a: [u8; 16], b: [u8; 16]) -> [u8; 16]
     ensures { λ r. ⌜ r ≡ followed a b ⌝ }
@@ -267,7 +251,7 @@ fn from_bit(v: [u8; 16], i: usize) -> [u8; 16]
     bits_copy::word_from(&w, i)
 }
 
-// The bytes that begin in an element: one more than fourteen, but for each eighth.
+// The bytes that begin in an element: fourteen, and one more but for each eighth element.
 fn put_bytes(v: [u8; 16], out: &mut [u8])
     requires { ⌜ (14 ≤ length (now out)) × (length (now out) ≤ 15) ⌝ }
     ensures { λ _. ⌜ now (out .exit) ≡ tabulate (length (now (out .entry))) (λ k. getD v k 0) ⌝ }
@@ -280,27 +264,35 @@ fn put_bytes(v: [u8; 16], out: &mut [u8])
     }
 }
 
-// The bytes of super frame f, descrambled. Element l has 119 bits: it begins l mod 8 bits before its first whole byte.
-fn frame(
-    t: &[u16; 4096],
-    positions: &[u8; 512],
-    scr: &[u8; scrambling::PERIOD_BYTES],
-    capture: &[u8],
-    f: usize,
-    out: &mut [u8],
-)
-    requires { ⌜ Tables (now t) (now positions) × (now scr ≡ onePeriod) × (f < 8) × (length (now out) ≡ superBytes) ⌝ }
-    ensures { λ _. ⌜ now (out .exit) ≡ frameOf (now (capture .entry)) f ⌝ }
+// The bytes of super frame f as they were received. Element l has 119 bits: it begins l mod 8 bits before its first whole byte.
+fn received(t: &[u16; 4096], positions: &[u8; 512], capture: &[u8], f: usize, out: &mut [u8])
+    requires { ⌜ Tables (now t) (now positions) × (f < 8) × (length (now out) ≡ superBytes) ⌝ }
+    ensures { λ _. ⌜ now (out .exit) ≡ pack superBytes (receivedIn (repaired (now (capture .entry))) f) ⌝ }
 {
-    let first = sizes::SUPER_ELEMENTS * f;
-    let mut here = plain_word(t, positions, scr, capture, first);
+    let mut here = element(t, positions, capture, sizes::SUPER_ELEMENTS * f);
     for l in 0..sizes::SUPER_ELEMENTS {
-        let next = plain_word(t, positions, scr, capture, first + (l + 1));
+        let next = element(t, positions, capture, sizes::SUPER_ELEMENTS * f + (l + 1));
         let a = 15 * l - l / 8;
         let e = 15 * (l + 1) - (l + 1) / 8;
         put_bytes(from_bit(follow(here, next), l % 8), &mut out[a..e]);
         here = next;
     }
+}
+
+// The same, descrambled.
+fn frame(
+    t: &[u16; 4096],
+    positions: &[u8; 512],
+    scr: &[u8],
+    capture: &[u8],
+    f: usize,
+    out: &mut [u8],
+)
+    requires { ⌜ Tables (now t) (now positions) × (now scr ≡ sequence) × (f < 8) × (length (now out) ≡ superBytes) ⌝ }
+    ensures { λ _. ⌜ now (out .exit) ≡ frameOf (now (capture .entry)) f ⌝ }
+{
+    received(t, positions, capture, f, out);
+    scrambling::add(scr, out);
 }
 
 // ---- FEC blocks, out of the bytes of a super frame
@@ -381,7 +373,7 @@ fn take_blocks(crcs: &[u32; 256], m0: u64, s: &[u8], f: usize, x: BlockTally) ->
 fn take_frame(
     t: &[u16; 4096],
     positions: &[u8; 512],
-    scr: &[u8; scrambling::PERIOD_BYTES],
+    scr: &[u8],
     crcs: &[u32; 256],
     m0: u64,
     capture: &[u8],
@@ -389,7 +381,7 @@ fn take_frame(
     x: BlockTally,
     buffer: &mut [u8],
 ) -> BlockTally
-    requires { ⌜ Tables (now t) (now positions) × (now scr ≡ onePeriod) × (now crcs ≡ entries) × (f < 8) × (length (now buffer) ≡ superBytes)
+    requires { ⌜ Tables (now t) (now positions) × (now scr ≡ sequence) × (now crcs ≡ entries) × (f < 8) × (length (now buffer) ≡ superBytes)
         × (x ≡ framesTo m0 (now capture) f) ⌝ }
     ensures { λ r. ⌜ r ≡ framesTo m0 (now (capture .entry)) (f + 1) ⌝ }
 {
@@ -406,13 +398,13 @@ fn take_frame(
 fn tally_frames(
     t: &[u16; 4096],
     positions: &[u8; 512],
-    scr: &[u8; scrambling::PERIOD_BYTES],
+    scr: &[u8],
     n: usize,
     m0: u64,
     capture: &[u8],
     buffer: &mut [u8],
 ) -> BlockTally
-    requires { ⌜ Tables (now t) (now positions) × (now scr ≡ onePeriod) × (n ≤ mostFrames) × (length (now buffer) ≡ superBytes) ⌝ }
+    requires { ⌜ Tables (now t) (now positions) × (now scr ≡ sequence) × (n ≤ mostFrames) × (length (now buffer) ≡ superBytes) ⌝ }
     ensures { λ r. ⌜ r ≡ framesTo m0 (now (capture .entry)) n ⌝ }
 {
     let crcs = crc::table();
@@ -451,14 +443,14 @@ fn write_blocks(s: &[u8], info: &mut [u8], parity: &mut [u8])
 fn write_frames(
     t: &[u16; 4096],
     positions: &[u8; 512],
-    scr: &[u8; scrambling::PERIOD_BYTES],
+    scr: &[u8],
     n: usize,
     capture: &[u8],
     buffer: &mut [u8],
     info: &mut [u8],
     parity: &mut [u8],
 )
-    requires { ⌜ Tables (now t) (now positions) × (now scr ≡ onePeriod) × (n ≤ mostFrames) × (length (now buffer) ≡ superBytes)
+    requires { ⌜ Tables (now t) (now positions) × (now scr ≡ sequence) × (n ≤ mostFrames) × (length (now buffer) ≡ superBytes)
         × (length (now info) ≡ infoLength n) × (length (now parity) ≡ parityLength n) ⌝ }
     ensures { λ _. ⌜ (now (info .exit) ≡ infoOf n (fecIn (repaired (now (capture .entry)))))
         × (now (parity .exit) ≡ parityOf n (fecIn (repaired (now (capture .entry))))) ⌝ }

@@ -7,14 +7,15 @@ use native.Mathlib.Omega.{arith}
 use borrow.Rule.Slice.PartMut.{putMid}
 use lib.ListN.{length, getD}
 use Rattle.prelude.specs.Lists.{tabulate, fromIndex}
-use Rattle.bits.specs.Bits.{num, bitAt, byteOf, pack, added, Bits}
+use Rattle.bits.specs.Bits.{num, bitAt, byteOf, pack, Bits}
 use Rattle.prelude.proofs.Common.{by-bound}
 use Rattle.prelude.proofs.Lists.{getD-tabulate, tabulate-ext, Filled, filled-block}
 use Rattle.bits.proofs.Numbers.{num-ext, digit-num}
-use Rattle.bits.proofs.Packing.{bitOf-lt, bitOf-packs, packs-ext}
+use Rattle.bits.proofs.Packing.{bitOf-lt, bitOf-packs}
 use Rattle.scrambler.specs.Scrambler.{o}
-use Rattle.scrambling.specs.Scrambling.{onePeriod, framePlace, periodPlace}
-use Rattle.scrambling.proofs.Adding.{sequence-from}
+use Rattle.scrambler.proofs.Rule.{o-lt}
+use Rattle.scrambling.specs.Scrambling.{byteSum}
+use Rattle.scrambling.proofs.Adding.{packs-added}
 use Rattle.hamming.specs.Code.{joined}
 use Rattle.hamming.proofs.Words.{joined-low, joined-high, joined-bit}
 use Rattle.sizes.specs.Sizes.{infoBits, parityBits, parityFrom, fecBits, infoBytes, parityBytes, fecBlocks, superBits, superBytes, superElements}
@@ -23,7 +24,7 @@ use Rattle.line.specs.Frames.{superFrom, fecFrom}
 use Rattle.line.specs.Slots.{slotOf}
 use Rattle.line.specs.Words.{elementFrom, superIn, fecIn}
 use Rattle.read_spec.specs.Read.{repaired}
-use Rattle.read_spec.specs.Steps.{frameOf, firstWholeByte, followed, plainWord, infoIn, parityIn}
+use Rattle.read_spec.specs.Steps.{sequence, frameOf, firstWholeByte, followed, receivedIn, infoIn, parityIn}
 
 -- ---- bits
 
@@ -47,53 +48,49 @@ followed-high a b x l h =
 
 -- ---- a super frame out of its elements
 
--- the word of element e, with the sequence added
-pub word-descrambled : (W : ℕ → List ℕ) (scr v r : List ℕ) (e : ℕ) → scr ≡ onePeriod → v ≡ W (slotOf e)
-    → r ≡ pack wordBytes (added (bitAt v) (fromIndex (bitAt scr) (periodPlace e))) → r ≡ plainWord W e
-word-descrambled W scr v r e p q h =
-    h ∙ packs-ext 8 wordBytes (added (bitAt v) (fromIndex (bitAt scr) (periodPlace e))) (λ i. (bitAt (W (slotOf e)) i + o (framePlace e + i)) % 2)
-    (λ i l. ap₂ (λ (s : List ℕ) (y : ℕ). (bitAt s i + y) % 2) q (sequence-from scr (framePlace e) i p l))
-
 module _ (W : ℕ → List ℕ) (f l : ℕ) where
   abbrev pair : List ℕ
-  pair = followed (plainWord W (superElements * f + l)) (plainWord W (superElements * f + (l + 1)))
+  pair = followed (W (slotOf (superElements * f + l))) (W (slotOf (superElements * f + (l + 1))))
 
-  plain-bit : (e x k : ℕ) → x < wordBits → framePlace e + x ≡ k → bitAt (plainWord W e) x ≡ (bitAt (W (slotOf e)) x + o k) % 2
-  plain-bit e x k h p =
-      bitOf-packs 8 wordBytes (λ i. (bitAt (W (slotOf e)) i + o (framePlace e + i)) % 2) x (λ i. omega arith) h
-      ∙ ap (λ (y : ℕ). (bitAt (W (slotOf e)) x + o y) % 2) p
-
-  -- the 128 bits from the first bit of element l on, as far as the super frame goes: 119 of its word, nine of the next one's
-  super-bit : (x : ℕ) → x < wordBits → l < superElements → elementBits * l + x < superBits → bitAt pair x ≡ superIn W f (elementBits * l + x)
-  unfolding superIn superFrom elementFrom
-  super-bit x h m n = by-bound elementBits x low high
+  -- the 128 bits from the first bit of element l on: 119 of its word, nine of the next one's
+  received-bit : (x : ℕ) → x < wordBits → bitAt pair x ≡ receivedIn W f (elementBits * l + x)
+  unfolding receivedIn elementFrom
+  received-bit x h = by-bound elementBits x low high
     where
-      low : x < elementBits → bitAt pair x ≡ superIn W f (elementBits * l + x)
-      low i =
+      low : x < elementBits → bitAt pair x ≡ receivedIn W f (elementBits * l + x)
+      low m =
           let p : (elementBits * l + x) / elementBits ≡ l = omega arith in
           let q : (elementBits * l + x) % elementBits ≡ x = omega arith in
-          rw (p, q)
-          (followed-low (plainWord W (superElements * f + l)) (plainWord W (superElements * f + (l + 1))) x i
-          ∙ plain-bit (superElements * f + l) x (elementBits * l + x) h (omega arith))
+          rw (p, q) (followed-low (W (slotOf (superElements * f + l))) (W (slotOf (superElements * f + (l + 1)))) x m)
 
-      high : elementBits ≤ x → bitAt pair x ≡ superIn W f (elementBits * l + x)
-      high i =
+      high : elementBits ≤ x → bitAt pair x ≡ receivedIn W f (elementBits * l + x)
+      high m =
           let p : (elementBits * l + x) / elementBits ≡ l + 1 = omega arith in
           let q : (elementBits * l + x) % elementBits ≡ x - elementBits = omega arith in
-          rw (p, q)
-          (followed-high (plainWord W (superElements * f + l)) (plainWord W (superElements * f + (l + 1))) x i h
-          ∙ plain-bit (superElements * f + (l + 1)) (x - elementBits) (elementBits * l + x) (omega arith) (omega arith))
+          rw (p, q) (followed-high (W (slotOf (superElements * f + l))) (W (slotOf (superElements * f + (l + 1)))) x m h)
 
 -- byte k of those that begin in element l, out of the bytes x of the element's word and the next one's
-pub element-byte : (W : ℕ → List ℕ) (x : List ℕ) (f l n k : ℕ) → x ≡ pack wordBytes (fromIndex (bitAt (pair W f l)) (l % 8)) → l < superElements
+pub element-byte : (W : ℕ → List ℕ) (x : List ℕ) (f l n k : ℕ) → x ≡ pack wordBytes (fromIndex (bitAt (pair W f l)) (l % 8))
     → n ≡ firstWholeByte (l + 1) - firstWholeByte l → k < n
-    → getD x k 0 ≡ byteOf (superIn W f) (firstWholeByte l + k)
-element-byte W x f l n k ex hl en h =
+    → getD x k 0 ≡ byteOf (receivedIn W f) (firstWholeByte l + k)
+element-byte W x f l n k ex en h =
     ap (λ (s : List ℕ). getD s k 0) ex ∙ getD-tabulate 0 wordBytes (byteOf (fromIndex (bitAt (pair W f l)) (l % 8))) k (omega arith)
-    ∙ num-ext 8 (fromIndex (bitAt (pair W f l)) (l % 8)) (superIn W f) (8 * k) (8 * (firstWholeByte l + k))
+    ∙ num-ext 8 (fromIndex (bitAt (pair W f l)) (l % 8)) (receivedIn W f) (8 * k) (8 * (firstWholeByte l + k))
     (λ j m.
     let q : elementBits * l + (l % 8 + (8 * k + j)) ≡ 8 * (15 * l - l / 8 + k) + j = omega arith in
-    super-bit W f l (l % 8 + (8 * k + j)) (omega arith) hl (omega arith) ∙ ap (superIn W f) q)
+    received-bit W f l (l % 8 + (8 * k + j)) (omega arith) ∙ ap (receivedIn W f) q)
+
+received-lt : (W : ℕ → List ℕ) (f : ℕ) → Bits (receivedIn W f)
+unfolding receivedIn elementFrom
+received-lt W f k = bitOf-lt 8 (W (slotOf (superElements * f + k / elementBits))) (k % elementBits)
+
+-- with the sequence added to them, the bytes of the super frame
+pub frame-descrambled : (cap scr s : List ℕ) (f n : ℕ) → n ≡ superBytes → scr ≡ sequence → s ≡ pack superBytes (receivedIn (repaired cap) f)
+    → tabulate n (byteSum s scr) ≡ frameOf cap f
+unfolding superIn superFrom receivedIn
+frame-descrambled cap scr s f n l p q =
+    ap (λ (m : ℕ). tabulate m (byteSum s scr)) l
+    ∙ packs-added superBytes (receivedIn (repaired cap) f) o s scr (received-lt (repaired cap) f) o-lt q p
 
 -- ---- FEC blocks in a super frame
 

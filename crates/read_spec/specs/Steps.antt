@@ -15,16 +15,14 @@ use Rattle.answer.specs.Outcomes.{written}
 use Rattle.answer.specs.declared.Answer.{Answer}
 use Rattle.crc.specs.Crc.{crcOf}
 use Rattle.scrambler.specs.Scrambler.{o}
-use Rattle.scrambling.specs.Scrambling.{framePlace}
 use Rattle.hamming.specs.Code.{joinedWord}
 use Rattle.hamming_matrix.specs.Steps.{positionTable}
 use Rattle.hamming_table.specs.Steps.{byteTable}
 use Rattle.sizes.specs.Sizes.{infoBits, crcBits, mbasBits, parityBits, mbasFrom, parityFrom, fecBits, fecBlocks, padFrom, padBits, superBytes, infoLength}
-use Rattle.sizes.specs.Sizes.{parityLength, captureLength, words, mostFrames, checkBits, wordBytes}
+use Rattle.sizes.specs.Sizes.{elementBits, superElements, parityLength, captureLength, words, mostFrames, checkBits}
 use Rattle.line.specs.Fec.{mbasOf}
 use Rattle.line.specs.Frames.{infoOf, parityOf}
-use Rattle.line.specs.Slots.{slotOf}
-use Rattle.line.specs.Words.{superIn, fecIn}
+use Rattle.line.specs.Words.{elementFrom, superIn, fecIn}
 use Rattle.read_spec.specs.Read.{repaired, isBeyond, isFilled, mbasDiffers, crcDiffers, padDiffers, isSeen}
 use Rattle.read_spec.specs.declared.WordTally.{WordTally}
 use Rattle.read_spec.specs.declared.BlockTally.{BlockTally}
@@ -42,6 +40,9 @@ pub record AcceptedRead (N : ℕ) (cap info par : List ℕ) : Type 0 where
 pub record Tables (t positions : List ℕ) : Type 0 where
   pub checks : t ≡ byteTable
   pub places : positions ≡ positionTable
+
+abbrev pub sequence : List ℕ
+sequence = pack superBytes o
 
 -- ---- a search that goes on to the end: x is the first place picked among k places, or k where there is none, and place k is taken in
 
@@ -72,9 +73,9 @@ firstWholeByte l = 15 * l - l / 8
 abbrev pub followed : List ℕ → List ℕ → List ℕ
 followed a b = joinedWord (bitAt a) (num checkBits (bitAt b) 0)
 
--- the word of element e of the words W, descrambled
-abbrev pub plainWord : (ℕ → List ℕ) → ℕ → List ℕ
-plainWord W e = pack wordBytes (λ i. (bitAt (W (slotOf e)) i + o (framePlace e + i)) % 2)
+-- bit k of super frame f as it was received, of the words W: still scrambled
+unfoldable pub receivedIn : (ℕ → List ℕ) → ℕ → ℕ → ℕ
+receivedIn W f k = elementFrom W (superElements * f + k / elementBits) (k % elementBits)
 
 -- ---- its FEC blocks, out of its bytes s; block b of the super frame is block t of the capture
 

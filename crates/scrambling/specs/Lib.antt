@@ -1,2 +1,3 @@
--- What the contract of `scrambling` is stated in.
+-- What the contracts of `scrambling` are stated in.
 pub mod Scrambling
+pub mod Steps

@@ -1,12 +1,18 @@
--- The sequence at an element (document 01, "One super frame": "started anew at each super frame"), out of one period of it that is made
+-- The sequence added (document 01, "One super frame": "started anew at each super frame"), out of one period of it that is made
 -- once and lent. Assumes nothing: these are definitions.
 use Prim.Native.Nat.{ℕ, _*_, _%_, _<_}
 use mathlib.Core.Path.{_≡_}
 use mathlib.Core.List.{List}
+use lib.Bits.{bitXor}
+use lib.ListN.{getD}
 use Rattle.bits.specs.Bits.{pack}
 use Rattle.scrambler.specs.Scrambler.{o}
 use Rattle.scrambler.specs.Steps.{period}
 use Rattle.sizes.specs.Sizes.{elementBits, superElements}
+
+-- byte k of s, and byte k of t added without carries; past the end of either there is nothing to add
+unfoldable pub byteSum : List ℕ → List ℕ → ℕ → ℕ
+byteSum s t k = bitXor (getD s k 0) (getD t k 0)
 
 -- one period of the sequence, and a word's bits more, so that a word can be cut out anywhere
 abbrev pub periodBytes : ℕ

@@ -1,123 +1,34 @@
--- `read::frame` meets its contract: before element l the bytes that begin in the elements before it are there. Assumes nothing.
-use Prim.Native.Nat.{ℕ, _%_, _+_, _-_, _*_, _≤_}
-use mathlib.Core.List.{List}
-use mathlib.Core.Path.{refl, ap, ap₂, _≡_, _∙_}
-use native.Mathlib.Omega.{arith}
+-- `read::frame` meets its contract. Assumes nothing.
+use mathlib.Core.Path.{ap, _∙_}
 use denote.Ref.{now}
-use lib.ListN.{take, drop, length, getD}
-use borrow.Author.Needs.{needs}
-use Rattle.prelude.specs.Lists.{fromIndex}
-use Rattle.bits.specs.Bits.{bitAt, byteOf, pack}
-use Rattle.prelude.proofs.Lists.{Filled, filled-none, filled-all, part-long}
-use Rattle.sizes.specs.Sizes.{superBytes, superElements, wordBytes}
-use Rattle.line.specs.Words.{superIn}
+use lib.ListN.{length}
+use Rattle.bits.proofs.Packing.{length-packs}
+use Rattle.sizes.specs.Sizes.{superBytes}
 use Rattle.read_spec.specs.Read.{repaired}
-use Rattle.read_spec.specs.Steps.{followed, plainWord, firstWholeByte}
-use Rattle.read_spec.proofs.Places.{element-byte, bytes-filled}
+use Rattle.read_spec.specs.Steps.{receivedIn}
+use Rattle.read_spec.proofs.Places.{frame-descrambled}
+use borrow.Author.Needs.{needs}
 use Rattle.read.proofs.frame.Statement.{statement}
 use Rattle.read.proofs.frame.Tie as tie
 
-abbrev Inv-loop : tie.InvT-loop
-Inv-loop t positions scr capture f out₀ first here₀ l₀ out here l = Filled (firstWholeByte l) (byteOf (superIn (repaired capture) f)) out₀ out
-    × (here ≡ plainWord (repaired capture) (superElements * f + l)) × (l ≤ superElements)
+received-requires : tie.Need-received-requires
+received-requires c κs = search needs
 
-abbrev μ-loop : tie.MeasureT-loop
-μ-loop t positions scr capture f out₀ first here₀ l₀ out here l = superElements - l
+add-requires : tie.Need-add-requires
+add-requires c κs = search needs
 
-mul-first : tie.Need-mul-first Inv-loop μ-loop
-mul-first c = search needs
-
-plain-word-requires : tie.Need-plain-word-requires Inv-loop μ-loop
-plain-word-requires c κs = search needs
-
-loop-holds : tie.Need-loop-holds Inv-loop μ-loop
-loop-holds c =
-    let entry = c .before .before .before in
-    (filled-none, c .plain-word .ensures ∙ ap (plainWord (repaired (now (entry .args .capture)))) (omega arith), omega arith)
-
-add-plain-word : tie.Need-add-plain-word Inv-loop μ-loop
-add-plain-word c = search needs
-
-add-plain-word-2 : tie.Need-add-plain-word-2 Inv-loop μ-loop
-add-plain-word-2 c = search needs
-
-plain-word-requires-2 : tie.Need-plain-word-requires-2 Inv-loop μ-loop
-plain-word-requires-2 c κs = search needs
-
-mul-a : tie.Need-mul-a Inv-loop μ-loop
-mul-a c = search needs
-
-sub-a : tie.Need-sub-a Inv-loop μ-loop
-sub-a c = search needs
-
-add-e : tie.Need-add-e Inv-loop μ-loop
-add-e c = search needs
-
-mul-e : tie.Need-mul-e Inv-loop μ-loop
-mul-e c = search needs
-
-add-e-2 : tie.Need-add-e-2 Inv-loop μ-loop
-add-e-2 c = search needs
-
-sub-e : tie.Need-sub-e Inv-loop μ-loop
-sub-e c = search needs
-
-follow-requires : tie.Need-follow-requires Inv-loop μ-loop
-follow-requires c κs = search needs
-
-from-bit-requires : tie.Need-from-bit-requires Inv-loop μ-loop
-from-bit-requires c κs = search needs
-
-sub-put-bytes : tie.Need-sub-put-bytes Inv-loop μ-loop
-sub-put-bytes c = search needs
-
-part-put-bytes-start : tie.Need-part-put-bytes-start Inv-loop μ-loop
-part-put-bytes-start c = search needs
-
-part-put-bytes-end : tie.Need-part-put-bytes-end Inv-loop μ-loop
-part-put-bytes-end c = search needs
-
-put-bytes-requires : tie.Need-put-bytes-requires Inv-loop μ-loop
-put-bytes-requires c κs = search needs
-
-add-l : tie.Need-add-l Inv-loop μ-loop
-add-l c = search needs
-
-loop-less : tie.Need-loop-less Inv-loop μ-loop
-loop-less c = search needs
-
-loop-again : tie.Need-loop-again Inv-loop μ-loop
-loop-again c =
-    let at-from = c .before .before .before .before in
-    let at-follow = at-from .before in
-    let at-next = at-follow .before in
-    let at-loop-test = at-next .before in
-    let at-loop = at-loop-test .before in
-    let h = at-loop .loop in
-    let s = at-loop .before .before .before .before in
-    let a = s .args in
-    let k = firstWholeByte (h .l + 1) - firstWholeByte (h .l) in
-    let cap = now (a .capture) in
-    let x = at-from .from-bit in
-    let next = at-next .plain-word2 .ensures in
-    let len : length (take k (drop (firstWholeByte (h .l)) (h .out))) ≡ k = part-long (firstWholeByte (h .l)) k (h .out)
-    (omega (arith, h .inv .0 .len, s .pre .3, at-loop-test .loop-test .taken)) in (
-      bytes-filled k (firstWholeByte (h .l + 1)) (length (take k (drop (firstWholeByte (h .l)) (h .out)))) (λ j. getD (x .result) j 0)
-          (h .inv .0) (omega arith) (omega (arith, s .pre .3, at-loop-test .loop-test .taken)) len (c .before .before .put-bytes .ensures)
-          (λ j m. element-byte (repaired cap) (x .result) (a .f) (h .l) k j
-          (x .ensures ∙ ap (λ (v : List ℕ). pack wordBytes (fromIndex (bitAt v) (h .l % 8))) (at-follow .follow .ensures ∙ ap₂ followed (h .inv .1) next))
-          (at-loop-test .loop-test .taken) refl m),
-      next,
-      omega arith,
-    )
-
-same-length : tie.Need-same-length Inv-loop μ-loop
+same-length : tie.Need-same-length
 same-length c = search needs
 
-returns : tie.Need-returns Inv-loop μ-loop
-returns c = filled-all superBytes (c .before .loop .inv .0) (omega arith) (search needs)
+returns : tie.Need-returns
+returns c =
+    let at-received = c .before .before .before .before in
+    let s = at-received .before .before .before .before .before .before in
+    let a = s .args in
+    let r = at-received .received .ensures in
+    c .before .before .add .ensures
+    ∙ frame-descrambled (now (a .capture)) (now (a .scr)) _ (a .f) _
+    (ap length r ∙ length-packs 8 superBytes (receivedIn (repaired (now (a .capture))) (a .f))) (s .pre .1) r
 
 pub frame-spec : {M : Type 1} → statement M
-frame-spec =
-    tie.close
-    (tie.spec Inv-loop μ-loop mul-first plain-word-requires loop-holds add-plain-word add-plain-word-2 plain-word-requires-2 mul-a sub-a add-e mul-e add-e-2 sub-e follow-requires from-bit-requires sub-put-bytes part-put-bytes-start part-put-bytes-end put-bytes-requires add-l loop-less loop-again same-length returns)
+frame-spec = tie.close (tie.spec received-requires add-requires same-length returns)

@@ -19,7 +19,7 @@ verdict-requires c κs = search needs
 
 write-frames-requires : tie.Need-write-frames-requires
 write-frames-requires c κs =
-    let at-pre = c .before .before .before .before .before .before .before .before .before .before .before .before .before .before .before in
+    let at-pre = c .before .before .before .before .before .before .before .before .before .before .before .before .before .before .before .before in
     let s = at-pre .pre in (s .0, s .1, s .3 .few, search needs, s .3 .information, s .3 .parity)
 
 same-length : tie.Need-same-length
@@ -38,7 +38,7 @@ returns c =
     let at-verdict = at-if .before .before in
     let at-tally-frames = at-verdict .before .before .before in
     let at-tally-words = at-tally-frames .before .before in
-    let entry = at-tally-words .before .before .before .before .before in
+    let entry = at-tally-words .before .before .before .before .before .before in
     let a = entry .args in
     let w = at-write-frames .write-frames .ensures in
     late-done (a .n) (a .m0) (now (a .capture)) (now (a .info)) (now (a .parity)) (at-tally-words .tally-words .result)
@@ -53,7 +53,7 @@ returns-2 c =
     let at-verdict = c .before .before in
     let at-tally-frames = at-verdict .before .before .before in
     let at-tally-words = at-tally-frames .before .before in
-    let entry = at-tally-words .before .before .before .before .before in
+    let entry = at-tally-words .before .before .before .before .before .before in
     let a = entry .args in
     late-refused (a .n) (a .m0) (now (a .capture)) (now (a .info)) (now (a .parity)) (at-tally-words .tally-words .result)
     (at-tally-frames .tally-frames .result) (at-verdict .verdict .result)

@@ -26,7 +26,7 @@ returns : tie.Need-returns
 returns c =
     let at-take-blocks = c .before .before .before in
     let at-frame = at-take-blocks .before .before .before .before in
-    let at-before = at-frame .before .before .before in
+    let at-before = at-frame .before .before .before .before in
     let s = at-before .before in
     let a = s .args in
     let y = at-take-blocks .take-blocks in

@@ -41,7 +41,7 @@ same-length c = search needs
 returns : tie.Need-returns Inv-loop μ-loop
 returns c =
     let l = c .before .loop in
-    let a = c .before .before .before .before .before .args in
+    let a = c .before .before .before .before .before .before .args in
     l .inv .0 ∙ ap (framesTo (a .m0) (now (a .capture))) (omega arith)
 
 pub tally-frames-spec : {M : Type 1} → statement M

@@ -72,7 +72,7 @@ loop-again : tie.Need-loop-again Inv-loop μ-loop
 loop-again c =
     let s = c .before .before .before .before .before .before .before .before .before .before .before .before .before in
     let h = s .loop in
-    let a = s .before .before .before .before .before .args in
+    let a = s .before .before .before .before .before .before .args in
     let cap = now (a .capture) in
     let i = superInfoBytes * h .f in
     let p = superParityBytes * h .f in
