@@ -22,8 +22,8 @@ same-length c = search needs
 
 returns : tie.Need-returns
 returns c =
-    let at-received = c .before .before .before .before in
-    let s = at-received .before .before .before .before .before .before in
+    let at-received = c .before .before .before .before .before .before in
+    let s = at-received .before .before .before .before .before in
     let a = s .args in
     let r = at-received .received .ensures in
     c .before .before .add .ensures
