@@ -27,6 +27,9 @@ ghost use Rattle.read_spec.specs.Read.{repaired, allZero, readAnswer, readLeave
 ghost use Rattle.read_spec.specs.Steps.{AcceptedRead, OneIf, Tables, sequence, soughtOf, wordsTo, frameOf, followed, receivedIn, mbasOff, crcOff, padOff};
 ghost use Rattle.read_spec.specs.Steps.{blockTaken, framesTo, infoIn, parityIn, lateAnswer, lateLeaves};
 
+// The scrambler's sequence of a super frame, and a byte more, so that none has to be tested.
+const SEQUENCE_BYTES: usize = sizes::SUPER_BYTES + 1;
+
 // The pad in whole bytes.
 const PAD_BYTES: usize = (sizes::PAD_BITS + 7) / 8;
 
@@ -58,7 +61,7 @@ fn read_accepted(n: usize, m0: u64, capture: &[u8], info: &mut [u8], parity: &mu
 {
     let t = hamming_table::byte_table();
     let positions = hamming_matrix::position_table();
-    let scr = scrambler::sequence();
+    let scr = whole_sequence();
     let mut buffer = blank();
     read_by(
         &t,
@@ -71,6 +74,15 @@ fn read_accepted(n: usize, m0: u64, capture: &[u8], info: &mut [u8], parity: &mu
         info,
         parity,
     )
+}
+
+// What is added to the bytes of a super frame.
+fn whole_sequence() -> [u8; SEQUENCE_BYTES]
+    ensures { λ r. ⌜ r ≡ sequence ⌝ }
+{
+    let mut out = [0u8; SEQUENCE_BYTES];
+    scrambler::fill(&mut out);
+    out
 }
 
 // A place for the bytes of one super frame.
@@ -251,14 +263,17 @@ fn from_bit(v: [u8; 16], i: usize) -> [u8; 16]
     bits_copy::word_from(&w, i)
 }
 
-// The bytes that begin in an element: fourteen, and one more but for each eighth element.
+// The bytes that begin in an element: fourteen, and one more but for each eighth element. Twelve are copied at once: a processor waits
+// where it loads bytes across the middle of a word that it has just stored.
 fn put_bytes(v: [u8; 16], out: &mut [u8])
     requires { ⌜ (14 ≤ length (now out)) × (length (now out) ≤ 15) ⌝ }
     ensures { λ _. ⌜ now (out .exit) ≡ tabulate (length (now (out .entry))) (λ k. getD v k 0) ⌝ }
 {
-    for k in 0..14usize {
+    for k in 0..12usize {
         out[k] = v[k];
     }
+    out[12] = v[12];
+    out[13] = v[13];
     if 14 < out.len() {
         out[14] = v[14];
     }
@@ -292,7 +307,7 @@ fn frame(
     ensures { λ _. ⌜ now (out .exit) ≡ frameOf (now (capture .entry)) f ⌝ }
 {
     received(t, positions, capture, f, out);
-    scrambling::add(scr, out);
+    scrambling::add(scr, 0, out);
 }
 
 // ---- FEC blocks, out of the bytes of a super frame

@@ -24,7 +24,7 @@ use Rattle.line.specs.Frames.{superFrom, fecFrom}
 use Rattle.line.specs.Slots.{slotOf}
 use Rattle.line.specs.Words.{elementFrom, superIn, fecIn}
 use Rattle.read_spec.specs.Read.{repaired}
-use Rattle.read_spec.specs.Steps.{sequence, frameOf, firstWholeByte, followed, receivedIn, infoIn, parityIn}
+use Rattle.read_spec.specs.Steps.{sequenceBytes, sequence, frameOf, firstWholeByte, followed, receivedIn, infoIn, parityIn}
 
 -- ---- bits
 
@@ -86,11 +86,12 @@ received-lt W f k = bitOf-lt 8 (W (slotOf (superElements * f + k / elementBits))
 
 -- with the sequence added to them, the bytes of the super frame
 pub frame-descrambled : (cap scr s : List ℕ) (f n : ℕ) → n ≡ superBytes → scr ≡ sequence → s ≡ pack superBytes (receivedIn (repaired cap) f)
-    → tabulate n (byteSum s scr) ≡ frameOf cap f
+    → tabulate n (byteSum s (fromIndex (bitAt scr) 0)) ≡ frameOf cap f
 unfolding superIn superFrom receivedIn
 frame-descrambled cap scr s f n l p q =
-    ap (λ (m : ℕ). tabulate m (byteSum s scr)) l
-    ∙ packs-added superBytes (receivedIn (repaired cap) f) o s scr (received-lt (repaired cap) f) o-lt q p
+    ap (λ (m : ℕ). tabulate m (byteSum s (fromIndex (bitAt scr) 0))) l
+    ∙ packs-added superBytes (receivedIn (repaired cap) f) o (fromIndex (bitAt scr) 0) s (received-lt (repaired cap) f) o-lt q
+    (λ i h. ap (λ (t : List ℕ). bitAt t (0 + i)) p ∙ bitOf-packs 8 sequenceBytes o (0 + i) o-lt (omega arith) ∙ ap o (zero-add i))
 
 -- ---- FEC blocks in a super frame
 

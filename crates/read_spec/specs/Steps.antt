@@ -41,8 +41,12 @@ pub record Tables (t positions : List ℕ) : Type 0 where
   pub checks : t ≡ byteTable
   pub places : positions ≡ positionTable
 
+-- the scrambler's sequence of a super frame, and a byte more, so that none has to be tested
+abbrev pub sequenceBytes : ℕ
+sequenceBytes = superBytes + 1
+
 abbrev pub sequence : List ℕ
-sequence = pack superBytes o
+sequence = pack sequenceBytes o
 
 -- ---- a search that goes on to the end: x is the first place picked among k places, or k where there is none, and place k is taken in
 

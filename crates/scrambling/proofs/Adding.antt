@@ -1,14 +1,15 @@
 -- The sequence out of one period, and added to a word. Assumes nothing.
-use Prim.Native.Nat.{ℕ, _+_, _*_, _%_, _≤_, _<_}
-use mathlib.Core.Path.{_≡_, sym, ap, ap₂, _∙_}
-use mathlib.Core.List.{List}
+use Prim.Native.Nat.{ℕ, _+_, _*_, _/_, _%_, _<_}
+use mathlib.Core.Path.{_≡_, ap, ap₂, _∙_}
+use mathlib.Core.List.{List, [], _∷_}
 use native.Mathlib.Omega.{arith}
-use lib.Bits.{bitXor, xor-zero-r}
-use lib.ListN.{length, getD, List·getD-eq-default}
+use lib.Bits.{bitXor}
+use lib.ListN.{getD}
 use Rattle.prelude.specs.Lists.{tabulate, fromIndex}
 use Rattle.prelude.proofs.Lists.{getD-tabulate, tabulate-ext}
-use Rattle.bits.specs.Bits.{bitAt, byteOf, pack, added, Bits}
-use Rattle.bits.proofs.Packing.{bitOf-packs}
+use Rattle.bits.specs.Bits.{num, bitAt, byteOf, pack, added, Bits}
+use Rattle.bits.proofs.Numbers.{num-ext}
+use Rattle.bits.proofs.Packing.{bitOf-packs, below-width, num-two-from}
 use Rattle.bits.proofs.Xor.{num-xor}
 use Rattle.scrambler.specs.Scrambler.{o}
 use Rattle.scrambler.specs.Steps.{period}
@@ -22,17 +23,20 @@ pub sequence-from : (scr : List ℕ) (k i : ℕ) → scr ≡ onePeriod → i < w
 sequence-from scr k i e h =
     ap (λ (s : List ℕ). bitAt s (k % period + i)) e ∙ bitOf-packs 8 periodBytes o (k % period + i) o-lt (omega arith) ∙ within-period k i
 
--- past the end of the sequence a byte stays
-pub sum-past : (out sequence : List ℕ) (k : ℕ) → length sequence ≤ k → getD out k 0 ≡ byteSum out sequence k
+-- byte k, not changed yet, with the eight bits of two bytes of the sequence
+pub byte-summed : (out₀ out sequence : List ℕ) (at k a b x : ℕ) → getD out k 0 ≡ getD out₀ k 0 → a ≡ getD sequence (at / 8 + k) 0 → b ≡ getD sequence (at / 8 + k + 1) 0
+    → x ≡ num 8 (bitAt (a ∷ b ∷ [])) (at % 8) → bitXor (getD out k 0) x ≡ byteSum out₀ (fromIndex (bitAt sequence) at) k
 unfolding byteSum
-sum-past out sequence k h = sym (ap (bitXor (getD out k 0)) (List·getD-eq-default sequence 0 h) ∙ xor-zero-r (getD out k 0))
+byte-summed out₀ out sequence at k a b x e p q r = ap₂ bitXor e (r ∙ num-two-from 8 sequence at k a b (omega arith) p q)
 
--- bytes made of bits, and added: the bits are
-pub packs-added : (n : ℕ) (f g : ℕ → ℕ) (s t : List ℕ) → Bits f → Bits g → s ≡ pack n f → t ≡ pack n g → tabulate n (byteSum s t) ≡ pack n (added f g)
+-- bytes made of bits, and bits added to them that are g's as far as the bytes go
+pub packs-added : (n : ℕ) (f g h : ℕ → ℕ) (s : List ℕ) → Bits f → Bits g → s ≡ pack n f → ((i : ℕ) → i < 8 * n → h i ≡ g i)
+    → tabulate n (byteSum s h) ≡ pack n (added f g)
 unfolding byteSum
-packs-added n f g s t hf hg p q =
-    tabulate-ext n (byteSum s t) (byteOf (added f g))
-    (λ k h. ap₂ bitXor (ap (λ (l : List ℕ). getD l k 0) p ∙ getD-tabulate 0 n (byteOf f) k h) (ap (λ (l : List ℕ). getD l k 0) q ∙ getD-tabulate 0 n (byteOf g) k h)
+packs-added n f g h s hf hg p e =
+    tabulate-ext n (byteSum s h) (byteOf (added f g))
+    (λ k l. ap₂ bitXor (ap (λ (t : List ℕ). getD t k 0) p ∙ getD-tabulate 0 n (byteOf f) k l)
+    (num-ext 8 h g (8 * k) (8 * k) (λ j m. e (8 * k + j) (below-width 8 n k j l m)))
     ∙ num-xor 8 f g (8 * k) hf hg)
 
 -- AN ELEMENT SCRAMBLED: to each of its bits the bit of the sequence is added that stands at its place in the super frame

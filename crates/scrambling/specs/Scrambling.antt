@@ -5,14 +5,14 @@ use mathlib.Core.Path.{_≡_}
 use mathlib.Core.List.{List}
 use lib.Bits.{bitXor}
 use lib.ListN.{getD}
-use Rattle.bits.specs.Bits.{pack}
+use Rattle.bits.specs.Bits.{byteOf, pack}
 use Rattle.scrambler.specs.Scrambler.{o}
 use Rattle.scrambler.specs.Steps.{period}
 use Rattle.sizes.specs.Sizes.{elementBits, superElements}
 
--- byte k of s, and byte k of t added without carries; past the end of either there is nothing to add
-unfoldable pub byteSum : List ℕ → List ℕ → ℕ → ℕ
-byteSum s t k = bitXor (getD s k 0) (getD t k 0)
+-- byte k of s, and the eight bits of g that stand beside it added without carries
+unfoldable pub byteSum : List ℕ → (ℕ → ℕ) → ℕ → ℕ
+byteSum s g k = bitXor (getD s k 0) (byteOf g k)
 
 -- one period of the sequence, and a word's bits more, so that a word can be cut out anywhere
 abbrev pub periodBytes : ℕ
