@@ -22,7 +22,7 @@ ghost use Rattle.line.specs.Words.{fecIn};
 ghost use Rattle.edit_spec.specs.Edit.{fecOf, blockFrom, change, crcChange, elementFec, elementLocal, touches, listed, fails, clientSpareSet, editEarlyRows, editAnswer};
 ghost use Rattle.edit_spec.specs.Edit.{editLeaves};
 ghost use Rattle.edit_spec.specs.Steps.{AcceptedEdit, firstElement, stretchFrom, stretchTo, newElement, fieldElement, withField, crcBit, withCrc, remade};
-ghost use Rattle.edit_spec.specs.Steps.{Lent, Passing, WordPassed};
+ghost use Rattle.edit_spec.specs.Steps.{NextWord, Lent, Passing, WordPassed};
 
 // The last bit of a client block.
 const BLOCK_LAST: usize = sizes::BLOCK_BITS - 1;
@@ -137,6 +137,23 @@ fn stretch_to(b: usize) -> usize
     first_element(b) + STRETCH
 }
 
+// The word that is looked at after word w. Behind the words of the client block's elements the next ones that can be listed are those of
+// the CRC and the parity.
+fn next_word(b: usize, w: usize) -> usize
+    requires { ⌜ (b < blocksOf mostFrames) × (w < stretchTo b) ⌝ }
+    ensures { λ r. ⌜ NextWord b w r ⌝ }
+{
+    let first = first_element(b);
+    let last = (sizes::BLOCK_BITS * (b % sizes::CLIENT_BLOCKS) + BLOCK_LAST) / sizes::ELEMENT_BITS;
+    if w < first + (last + sizes::LONGEST_WAIT) {
+        return w + 1;
+    }
+    if first + sizes::INFO_ELEMENTS <= w {
+        return w + 1;
+    }
+    first + sizes::INFO_ELEMENTS
+}
+
 // ---- number 9
 
 // Whether word w has checks that are not zero.
@@ -163,10 +180,13 @@ fn first_refused(n: usize, b: usize, capture: &[u8], t: &[u16; 4096]) -> usize
     requires { ⌜ (n ≤ mostFrames) × (b < blocksOf n) × (now t ≡ byteTable) ⌝ }
     ensures { λ r. ⌜ r ≡ first (fails n b (now (capture .entry))) (words n) ⌝ }
 {
-    for w in stretch_from(b)..stretch_to(b) {
+    let to = stretch_to(b);
+    let mut w = stretch_from(b);
+    while w < to {
         if is_refused(n, b, capture, t, w) {
             return w;
         }
+        w = next_word(b, w);
     }
     sizes::SUPER_ELEMENTS * n + sizes::LONGEST_WAIT
 }
@@ -385,9 +405,12 @@ fn rewrite(
     ensures { λ r. ⌜ Passing n b (now (bits .entry)) (now (parity .entry)) (now (capture .entry)) (now (list .entry)) (words n) (now (capture .exit))
         (now (list .exit)) r ⌝ }
 {
+    let to = stretch_to(b);
+    let mut w = stretch_from(b);
     let mut c: usize = 0;
-    for w in stretch_from(b)..stretch_to(b) {
+    while w < to {
         c = pass_word(n, b, bits, parity, scr, t, tails, crc, w, c, capture, list);
+        w = next_word(b, w);
     }
     c
 }

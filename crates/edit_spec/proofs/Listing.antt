@@ -3,6 +3,7 @@ use Prim.Native.Nat.{ℕ, suc, _+_, _-_, _*_, _/_, _%_, _≤_, _<_}
 use mathlib.Core.Bool.{Bool, true, false, cond, not, _&&_, and-true, and-false}
 use mathlib.Core.Path.{_≡_, refl, sym, ap, _∙_}
 use mathlib.Core.List.{List}
+use mathlib.Core.Logic.{_⊎_, inl, inr, ⊎-elim}
 use native.Mathlib.Decide.{decLt}
 use native.Mathlib.Omega.{arith}
 use borrow.Author.Tests.{leb-false, eqb-true, eq-eqb, lt-ltb, le-ltb, lt-leb, not-true}
@@ -11,12 +12,12 @@ use Rattle.prelude.specs.Loops.{count}
 use Rattle.prelude.proofs.Common.{clash, and-left, and-right}
 use Rattle.hamming.specs.Code.{checksOf}
 use Rattle.line_order.specs.Order.{wordIn}
-use Rattle.sizes.specs.Sizes.{fecBlocks, elementBits, superElements, fecElements, infoElements, words, blocksOf, tailElements}
+use Rattle.sizes.specs.Sizes.{blockBits, fecBlocks, elementBits, superElements, fecElements, infoElements, words, blocksOf, tailElements}
 use Rattle.line.specs.Slots.{slotOf, delay, elementIn, holds}
 use Rattle.line.proofs.SlotLaws.{held}
 use Rattle.edit_spec.specs.Edit.{fecOf, blockFrom, elementFec, elementLocal, isPad, touches, listed, fails}
 use Rattle.edit_spec.specs.Listed.{Holding}
-use Rattle.edit_spec.specs.Steps.{firstElement, stretchFrom, stretchTo}
+use Rattle.edit_spec.specs.Steps.{firstElement, stretchFrom, stretchTo, Between}
 use Rattle.edit_spec.proofs.Touching.{touches-at, touches-some, element-before, element-past}
 use Rattle.edit_spec.proofs.Picking.{In, count-few}
 
@@ -224,6 +225,30 @@ listed-outside N b w n = by (listed N b w) refl
     by : (t : Bool) → listed N b w ≡ t → listed N b w ≡ false
     by true h = absurd (n (listed-within N b w h))
     by false h = h
+
+-- between the client block's elements and the tail
+own-beside : (b k : ℕ) → k < listedCount b → (own b k ≤ (blockFrom b + (blockBits - 1)) / elementBits) ⊎ (infoElements ≤ own b k)
+unfolding listedCount
+own-beside b k h = by (decLt k tailElements)
+  where
+    by : Dec (k < tailElements) → (own b k ≤ (blockFrom b + (blockBits - 1)) / elementBits) ⊎ (infoElements ≤ own b k)
+    by (yes l) = inr (rw (own-tail b k l) (omega arith))
+    by (no l) =
+        let e : k ≡ tailElements + (k - tailElements) = omega arith in
+        inl (rw e (rw (own-block b (k - tailElements)) (omega arith)))
+
+pub listed-between : (N b w : ℕ) → Between b w → listed N b w ≡ false
+unfolding slotNo slotOf delay
+listed-between N b w n = by (listed N b w) refl
+  where
+    by : (t : Bool) → listed N b w ≡ t → listed N b w ≡ false
+    by true h =
+        let i = listed-slot N b w h in
+        absurd (⊎-elim (λ l. omega (arith, i .is, l, n .behind)) (λ l. omega (arith, i .is, l, n .before)) (own-beside b (i .index) (i .within)))
+    by false h = h
+
+pub fails-between : (N b : ℕ) (cap : List ℕ) (w : ℕ) → Between b w → fails N b cap w ≡ false
+fails-between N b cap w n = sym (fails-unlisted N b cap w (listed-between N b w n))
 
 pub fails-outside : (N b : ℕ) (cap : List ℕ) (w : ℕ) → (Within b w → ⊥) → fails N b cap w ≡ false
 fails-outside N b cap w n = sym (fails-unlisted N b cap w (listed-outside N b w n))

@@ -15,7 +15,7 @@ use Rattle.hamming_matrix.specs.Steps.{tailTable}
 use Rattle.line_order.specs.Steps.{doneTo, putWord}
 use Rattle.hamming_table.specs.Steps.{byteTable}
 use Rattle.sizes.specs.Sizes.{crcBits, parityBytes, fecBlocks, elementBits, superElements, fecElements, captureLength, longestWait, blocksOf}
-use Rattle.sizes.specs.Sizes.{blockBytes, listLength, mostFrames, wordBytes}
+use Rattle.sizes.specs.Sizes.{blockBits, infoElements, blockBytes, listLength, mostFrames, wordBytes}
 use Rattle.line.specs.Fec.{fields}
 use Rattle.line.specs.Slots.{elementIn}
 use Rattle.line_order.specs.Order.{laid, wordIn}
@@ -44,6 +44,17 @@ stretchFrom b = firstElement b + blockFrom b / elementBits
 
 abbrev pub stretchTo : ℕ → ℕ
 stretchTo b = firstElement b + (fecElements + longestWait)
+
+-- a word of that stretch behind the words of the client block's elements and before those of CRC and parity: none is listed there
+pub record Between (b w : ℕ) : Type 0 where
+  pub behind : firstElement b + ((blockFrom b + (blockBits - 1)) / elementBits + longestWait) < w
+  pub before : w < firstElement b + infoElements
+
+-- from word w the pass goes on at word r
+pub record NextWord (b w r : ℕ) : Type 0 where
+  pub later : w < r
+  pub within : r ≤ stretchTo b
+  pub over : (x : ℕ) → w < x → x < r → Between b x
 
 -- ---- a word made anew
 
