@@ -312,30 +312,32 @@ fn tail_element(
     )
 }
 
-// Element e made anew, where old was received: one of the information, that of CRC and MBAS, or one that is all parity.
+// Element e of word w made anew: one of the information, that of CRC and MBAS, or one that is all parity, of which nothing stays.
 fn new_element(
     b: usize,
     bits: &[u8],
     parity: &[u8],
     scr: &[u8; scrambling::PERIOD_BYTES],
     crc: u32,
+    capture: &[u8],
+    w: usize,
     e: usize,
-    old: [u8; 16],
 ) -> [u8; 16]
     requires { ⌜ now scr ≡ onePeriod ⌝ }
-    ensures { λ r. ⌜ Agree (bitAt r) (newElement b (now (bits .entry)) (now (parity .entry)) crc e old) ⌝ }
+    ensures { λ r. ⌜ Agree (bitAt r) (newElement b (now (bits .entry)) (now (parity .entry)) crc e (wordIn (now (capture .entry)) w)) ⌝ }
 {
     let m = e % sizes::SUPER_ELEMENTS % sizes::FEC_ELEMENTS;
+    if sizes::INFO_ELEMENTS < m {
+        return field_element(parity, sizes::PARITY_FROM, scr, e);
+    }
+    let old = line_order::word_in(capture, w);
     if m < sizes::INFO_ELEMENTS {
         return block_element(b, bits, scr, e, old);
     }
-    if m == sizes::INFO_ELEMENTS {
-        return tail_element(parity, scr, crc, e, old);
-    }
-    field_element(parity, sizes::PARITY_FROM, scr, e)
+    tail_element(parity, scr, crc, e, old)
 }
 
-// Word w made anew, where old was received.
+// Word w made anew.
 fn new_word(
     b: usize,
     bits: &[u8],
@@ -344,14 +346,14 @@ fn new_word(
     t: &[u16; 4096],
     tails: &[u16; 512],
     crc: u32,
+    capture: &[u8],
     w: usize,
-    old: [u8; 16],
 ) -> [u8; 16]
     requires { ⌜ Lent (now scr) (now t) (now tails) ⌝ }
-    ensures { λ r. ⌜ r ≡ remade b (now (bits .entry)) (now (parity .entry)) crc w old ⌝ }
+    ensures { λ r. ⌜ r ≡ remade b (now (bits .entry)) (now (parity .entry)) crc w (wordIn (now (capture .entry)) w) ⌝ }
 {
-    let e = line::element_in(w);
-    hamming_table::encode_by(t, tails, new_element(b, bits, parity, scr, crc, e, old))
+    let v = new_element(b, bits, parity, scr, crc, capture, w, line::element_in(w));
+    hamming_table::encode_by(t, tails, v)
 }
 
 // ---- the pass
@@ -377,8 +379,7 @@ fn pass_word(
         (now (list .exit)) r ⌝ }
 {
     if is_listed(n, b, w) {
-        let old = line_order::word_in(capture, w);
-        let v = new_word(b, bits, parity, scr, t, tails, crc, w, old);
+        let v = new_word(b, bits, parity, scr, t, tails, crc, capture, w);
         line_order::put_word(capture, w, v);
         list[c] = w as u64;
         return c + 1;

@@ -158,10 +158,10 @@ module _ (N b : ℕ) (bits parity cap₀ list₀ : List ℕ) where
 -- ---- how code passes a word
 
 module _ (N b : ℕ) (bits parity : List ℕ) (crc w c : ℕ) (cap list : List ℕ) where
-  pub word-passed-yes : (old v cap′ : List ℕ) → listed N b w ≡ true → old ≡ wordIn cap w → v ≡ remade b bits parity crc w old → cap′ ≡ putWord cap w v
+  pub word-passed-yes : (v cap′ : List ℕ) → listed N b w ≡ true → v ≡ remade b bits parity crc w (wordIn cap w) → cap′ ≡ putWord cap w v
       → WordPassed N b bits parity crc w c cap list cap′ (set list c w) (c + 1)
-  word-passed-yes old v cap′ h p q e =
-      record { capture = rw (h, e, q, p); entries = rw h; counted = rw h }
+  word-passed-yes v cap′ h q e =
+      record { capture = rw (h, e, q); entries = rw h; counted = rw h }
 
   pub word-passed-no : listed N b w ≡ false → WordPassed N b bits parity crc w c cap list cap list c
   word-passed-no h = record { capture = rw h; entries = rw h; counted = rw h }

@@ -2,6 +2,7 @@
 use Prim.Native.Nat.{ℕ}
 use mathlib.Core.Path.{ap, _∙_}
 use denote.Ref.{now}
+use Rattle.line_order.specs.Order.{wordIn}
 use Rattle.hamming_table.proofs.Tabled.{by-word}
 use Rattle.edit_spec.specs.Steps.{newElement}
 use Rattle.edit_spec.proofs.Remaking.{made-anew}
@@ -22,12 +23,13 @@ returns : tie.Need-returns
 returns c =
     let v = c .before in
     let e = v .before in
-    let s = e .before .before .before in
+    let s = e .before .before .before .before in
     let a = s .args in
     c .encode-by .ensures
     ∙ by-word (now (a .t)) (now (a .tails)) (v .new-element .result) (s .pre .checks) (s .pre .closing)
-    ∙ made-anew (a .b) (now (a .bits)) (now (a .parity)) (a .crc) (a .w) (a .old) (v .new-element .result)
-    (λ i l. v .new-element .ensures i l ∙ ap (λ (x : ℕ). newElement (a .b) (now (a .bits)) (now (a .parity)) (a .crc) x (a .old) i) (e .element-in .ensures))
+    ∙ made-anew (a .b) (now (a .bits)) (now (a .parity)) (a .crc) (a .w) (wordIn (now (a .capture)) (a .w)) (v .new-element .result)
+    (λ i l. v .new-element .ensures i l
+    ∙ ap (λ (x : ℕ). newElement (a .b) (now (a .bits)) (now (a .parity)) (a .crc) x (wordIn (now (a .capture)) (a .w)) i) (e .element-in .ensures))
 
 pub new-word-spec : {M : Type 1} → statement M
 new-word-spec =
