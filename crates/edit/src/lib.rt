@@ -19,10 +19,10 @@ ghost use Rattle.sizes.specs.Sizes.{blockBits, fecBits, fecBlocks, elementBits,
 ghost use Rattle.sizes.specs.Sizes.{parityFrom, listLength, mostFrames, wordBytes};
 ghost use Rattle.line_order.specs.Order.{wordIn};
 ghost use Rattle.line.specs.Words.{fecIn};
-ghost use Rattle.edit_spec.specs.Edit.{fecOf, blockFrom, change, crcChange, elementFec, elementLocal, touches, listed, fails, clientSpareSet, editEarlyRows, editAnswer};
+ghost use Rattle.edit_spec.specs.Edit.{fecOf, blockFrom, change, crcChange, elementFec, elementLocal, listed, fails, clientSpareSet, editEarlyRows, editAnswer};
 ghost use Rattle.edit_spec.specs.Edit.{editLeaves};
 ghost use Rattle.edit_spec.specs.Steps.{AcceptedEdit, firstElement, stretchFrom, stretchTo, newElement, fieldElement, withField, crcBit, withCrc, remade};
-ghost use Rattle.edit_spec.specs.Steps.{NextWord, Lent, Passing, WordPassed};
+ghost use Rattle.edit_spec.specs.Steps.{InTail, InBlock, NextWord, Lent, Passing, WordPassed};
 
 // The last bit of a client block.
 const BLOCK_LAST: usize = sizes::BLOCK_BITS - 1;
@@ -83,16 +83,6 @@ fn spare_set(bits: &[u8]) -> bool
 
 // ---- which words are listed
 
-// Whether local element m of an FEC block holds a bit of client block b, of the CRC or of the parity. From element 2056 on each does.
-fn holds_touched(b: usize, m: usize) -> bool
-    requires { ⌜ m < fecElements ⌝ }
-    ensures { λ r. ⌜ r ≡ touches b (elementBits * m) elementBits ⌝ }
-{
-    let from = sizes::BLOCK_BITS * (b % sizes::CLIENT_BLOCKS);
-    sizes::INFO_ELEMENTS <= m
-        || (from / sizes::ELEMENT_BITS <= m && m <= (from + BLOCK_LAST) / sizes::ELEMENT_BITS)
-}
-
 // The first element of client block b's FEC block.
 fn first_element(b: usize) -> usize
     requires { ⌜ b < blocksOf mostFrames ⌝ }
@@ -102,23 +92,39 @@ fn first_element(b: usize) -> usize
         + sizes::FEC_ELEMENTS * (b / sizes::CLIENT_BLOCKS % sizes::FEC_BLOCKS)
 }
 
+// Whether element e holds a bit of the CRC or the parity of client block b's FEC block: each does from the 2,057th on.
+fn in_tail(b: usize, e: usize) -> bool
+    requires { ⌜ b < blocksOf mostFrames ⌝ }
+    ensures { λ r. ⌜ InTail b e r ⌝ }
+{
+    let first = first_element(b);
+    first + sizes::INFO_ELEMENTS <= e && e < first + sizes::FEC_ELEMENTS
+}
+
+// Whether it holds a bit of client block b itself.
+fn in_block(b: usize, e: usize) -> bool
+    requires { ⌜ b < blocksOf mostFrames ⌝ }
+    ensures { λ r. ⌜ InBlock b e r ⌝ }
+{
+    let first = first_element(b);
+    let from = sizes::BLOCK_BITS * (b % sizes::CLIENT_BLOCKS);
+    first + from / sizes::ELEMENT_BITS <= e
+        && e <= first + (from + BLOCK_LAST) / sizes::ELEMENT_BITS
+}
+
 // Whether word w of n super frames is listed. Most words hold nothing that is touched, so that is asked before whether they are filler.
 fn is_listed(n: usize, b: usize, w: usize) -> bool
     requires { ⌜ (b < blocksOf n) × (n ≤ mostFrames) × (w < words n) ⌝ }
     ensures { λ r. ⌜ r ≡ listed n b w ⌝ }
 {
     let e = line::element_in(w);
-    let first = first_element(b);
-    if e < first {
-        return false;
+    if in_tail(b, e) {
+        return line::holds_element(n, w);
     }
-    if first + sizes::FEC_ELEMENTS <= e {
-        return false;
+    if in_block(b, e) {
+        return line::holds_element(n, w);
     }
-    if !holds_touched(b, e - first) {
-        return false;
-    }
-    line::holds_element(n, w)
+    false
 }
 
 // No word before this one is listed: an element does not leave before its own number.

@@ -5,11 +5,12 @@ use mathlib.Core.Path.{_≡_, refl, sym, ap, _∙_}
 use mathlib.Core.List.{List}
 use mathlib.Core.Logic.{_⊎_, inl, inr, ⊎-elim}
 use native.Mathlib.Decide.{decLt}
+use native.Mathlib.Nat.{lt-irrefl}
 use native.Mathlib.Omega.{arith}
 use borrow.Author.Tests.{leb-false, eqb-true, eq-eqb, lt-ltb, le-ltb, lt-leb, not-true}
 use lib.Dec.{ltb, eqb}
 use Rattle.prelude.specs.Loops.{count}
-use Rattle.prelude.proofs.Common.{clash, and-left, and-right}
+use Rattle.prelude.proofs.Common.{clash, and-left, and-right, by-bound}
 use Rattle.hamming.specs.Code.{checksOf}
 use Rattle.line_order.specs.Order.{wordIn}
 use Rattle.sizes.specs.Sizes.{blockBits, fecBlocks, elementBits, superElements, fecElements, infoElements, words, blocksOf, tailElements}
@@ -17,8 +18,8 @@ use Rattle.line.specs.Slots.{slotOf, delay, elementIn, holds}
 use Rattle.line.proofs.SlotLaws.{held}
 use Rattle.edit_spec.specs.Edit.{fecOf, blockFrom, elementFec, elementLocal, isPad, touches, listed, fails}
 use Rattle.edit_spec.specs.Listed.{Holding}
-use Rattle.edit_spec.specs.Steps.{firstElement, stretchFrom, stretchTo, Between}
-use Rattle.edit_spec.proofs.Touching.{touches-at, touches-some, element-before, element-past}
+use Rattle.edit_spec.specs.Steps.{firstElement, stretchFrom, stretchTo, InTail, InBlock, Between}
+use Rattle.edit_spec.proofs.Touching.{touches-at, touches-some, element-tail, element-block, element-before, element-past}
 use Rattle.edit_spec.proofs.Picking.{In, count-few}
 
 -- ---- what it means: the word holds an element of the client block's FEC block, and one of its bits is touched
@@ -170,17 +171,6 @@ own-fec b m h =
 pub own-in : (N b m : ℕ) → b < blocksOf N → m < fecElements → firstElement b + m < superElements * N
 own-in N b m h l = omega arith
 
--- how code sees it, by the number of the element: one of another FEC block or of the pad
-pub listed-elsewhere : (N b w : ℕ) → ((m : ℕ) → m < fecElements → elementIn w ≡ firstElement b + m → ⊥) → false ≡ listed N b w
-listed-elsewhere N b w n = by (listed N b w) refl
-  where
-    by : (t : Bool) → listed N b w ≡ t → false ≡ listed N b w
-    by true h =
-        let l = listed-holding N b w h in
-        let e = elementIn w in
-        absurd (n (elementLocal e) (local-lt e) (element-is b e (l .no-pad) (l .block)))
-    by false h = sym h
-
 -- one of the client block's FEC block, or filler
 module _ (N b w m : ℕ) (l : m < fecElements) (e : elementIn w ≡ firstElement b + m) where
   listed-own : holds N w && touches b (elementBits * m) elementBits ≡ listed N b w
@@ -190,11 +180,41 @@ module _ (N b w m : ℕ) (l : m < fecElements) (e : elementIn w ≡ firstElement
       let pad = no-pad-test (firstElement b + m) (own-element b m l) in
       rw (e, pad, f .1, eq-eqb (elementFec (firstElement b + m)) (fecOf b) (f .0), and-true (holds N w), and-true (holds N w))
 
-  pub listed-untouched : touches b (elementBits * m) elementBits ≡ false → false ≡ listed N b w
-  listed-untouched h = sym (and-false (holds N w)) ∙ rw (← h) listed-own
-
-  pub listed-touched : touches b (elementBits * m) elementBits ≡ true → holds N w ≡ listed N b w
+  listed-touched : touches b (elementBits * m) elementBits ≡ true → holds N w ≡ listed N b w
   listed-touched h = sym (and-true (holds N w)) ∙ rw (← h) listed-own
+
+-- no element of that FEC block, or one that holds no touched bit
+listed-none : (N b w : ℕ) → ((m : ℕ) → m < fecElements → elementIn w ≡ firstElement b + m → touches b (elementBits * m) elementBits ≡ false) → false ≡ listed N b w
+listed-none N b w n = by (listed N b w) refl
+  where
+    by : (t : Bool) → listed N b w ≡ t → false ≡ listed N b w
+    by true h =
+        let l = listed-holding N b w h in
+        let e = elementIn w in
+        let t = l .touch in
+        absurd (clash (touches-at b (elementBits * elementLocal e) elementBits (t .bit) (t .within) (t .there))
+        (n (elementLocal e) (local-lt e) (element-is b e (l .no-pad) (l .block))))
+    by false h = sym h
+
+-- how code tests it, by the number of the element
+module _ (N b w e : ℕ) (q : e ≡ elementIn w) where
+  pub listed-tail : {t : Bool} → InTail b e t → t ≡ true → holds N w ≡ listed N b w
+  listed-tail i h =
+      let y = i .yes h in
+      let m = e - firstElement b in
+      listed-touched N b w m (omega (arith, y .1)) (omega (arith, q, y .0)) (element-tail b m (omega (arith, y .0)))
+
+  pub listed-block : {t : Bool} → InBlock b e t → t ≡ true → holds N w ≡ listed N b w
+  listed-block i h =
+      let y = i .yes h in
+      let m = e - firstElement b in
+      listed-touched N b w m (omega (arith, y .1)) (omega (arith, q, y .0)) (element-block b m (omega (arith, y .0)) (omega (arith, y .1)))
+
+  pub listed-neither : {t u : Bool} → InTail b e t → t ≡ false → InBlock b e u → u ≡ false → false ≡ listed N b w
+  listed-neither i h j k =
+      listed-none N b w (λ m l p. by-bound infoElements m (λ x. by-bound (blockFrom b / elementBits) m (element-before b m x)
+      (λ y. let z = j .no k (omega (arith, q, p)) in element-past b m x (omega (arith, q, p, z))))
+      (λ x. let z = i .no h (omega (arith, q, p)) in absurd (lt-irrefl _ (let c : m < m = omega (arith, q, p, z, l) in c))))
 
 -- ---- the stretch of words that can be listed
 

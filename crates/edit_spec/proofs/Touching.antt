@@ -106,12 +106,3 @@ pub element-past : (b m : ℕ) → m < infoElements → (blockFrom b + 256) / el
 element-past b m h l =
     touches-none b (elementBits * m) elementBits
     (λ j k. element-untouched b (elementBits * m + j) (omega arith) (block-past b (elementBits * m + j) (omega arith)))
-
--- how code tests it, where the element is none of the last and not before the block
-pub block-test : (b m : ℕ) → m < infoElements → blockFrom b / elementBits ≤ m
-    → leb m ((blockFrom b + 256) / elementBits) ≡ touches b (elementBits * m) elementBits
-block-test b m h l = by (leb m ((blockFrom b + 256) / elementBits)) refl
-  where
-    by : (t : Bool) → leb m ((blockFrom b + 256) / elementBits) ≡ t → t ≡ touches b (elementBits * m) elementBits
-    by true e = sym (element-block b m l (leb-true m ((blockFrom b + 256) / elementBits) e))
-    by false e = sym (element-past b m h (leb-false m ((blockFrom b + 256) / elementBits) e))

@@ -1,6 +1,6 @@
 -- The steps of an edit as the code takes them: a word made anew from its received bytes, and how far a pass has come. Assumes nothing: these are definitions.
 use Prim.Native.Nat.{ℕ, _+_, _-_, _*_, _/_, _%_, _≤_, _<_}
-use mathlib.Core.Bool.{false, cond}
+use mathlib.Core.Bool.{Bool, true, false, cond}
 use mathlib.Core.Path.{_≡_}
 use mathlib.Core.List.{List, _++_}
 use lib.ListN.{length, set, drop}
@@ -44,6 +44,15 @@ stretchFrom b = firstElement b + blockFrom b / elementBits
 
 abbrev pub stretchTo : ℕ → ℕ
 stretchTo b = firstElement b + (fecElements + longestWait)
+
+-- the answer r of a test of element e: one of the FEC block's last 138, which hold CRC and parity; one that holds a bit of client block b
+pub record InTail (b e : ℕ) (r : Bool) : Type 0 where
+  pub yes : r ≡ true → (firstElement b + infoElements ≤ e) × (e < firstElement b + fecElements)
+  pub no : r ≡ false → firstElement b + infoElements ≤ e → firstElement b + fecElements ≤ e
+
+pub record InBlock (b e : ℕ) (r : Bool) : Type 0 where
+  pub yes : r ≡ true → (firstElement b + blockFrom b / elementBits ≤ e) × (e ≤ firstElement b + (blockFrom b + (blockBits - 1)) / elementBits)
+  pub no : r ≡ false → firstElement b + blockFrom b / elementBits ≤ e → firstElement b + (blockFrom b + (blockBits - 1)) / elementBits < e
 
 -- a word of that stretch behind the words of the client block's elements and before those of CRC and parity: none is listed there
 pub record Between (b w : ℕ) : Type 0 where
