@@ -6,25 +6,18 @@
 #include <string.h>
 
 enum {
-    ELEMENTS = 10976,
-    ELEMENT_BITS = 119,
-    WORD_BITS = 128,
-    FRAME_BITS = ELEMENTS * ELEMENT_BITS,
+    FRAME_BITS = 10976 * 119,
     FRAME_BYTES = FRAME_BITS / 8,
     PERIOD = 65535, /* in bits, and so in bytes too: after eight periods a byte begins with the first bit again */
 };
 
-/* Works on the words of the elements, in place: the first 119 bits of a word are its element, and the nine behind them may
- * become anything. The answer is how many words it did. */
-uint64_t bench_scramble(uint8_t *words, size_t length);
+/* Makes the sequence and adds it to the bytes of a super frame: the function of the crate `scrambling` that coding, reading
+ * and editing use. */
+void bench_scramble(uint8_t *bytes, size_t length);
 
-static uint8_t words[ELEMENTS * WORD_BITS / 8], by_bytes[FRAME_BYTES], by_bits[FRAME_BYTES];
+static uint8_t proved[FRAME_BYTES], by_bytes[FRAME_BYTES], by_bits[FRAME_BYTES];
 
-static void add_proved(void)
-{
-    if (bench_scramble(words, sizeof words) != ELEMENTS)
-        stop("the proved scrambler did not do all words");
-}
+static void add_proved(void) { bench_scramble(proved, sizeof proved); }
 
 /* The next bit behind the last sixteen, of which the newest is the lowest. */
 static inline unsigned next_bit(unsigned last) { return (last ^ last >> 2 ^ last >> 11 ^ last >> 15) & 1; }
@@ -75,30 +68,19 @@ static void add_by_bits(void)
     }
 }
 
-static unsigned bit_of(const uint8_t *bytes, size_t at) { return bytes[at / 8] >> (7 - at % 8) & 1; }
-
-static size_t place_in_words(size_t at) { return at / ELEMENT_BITS * WORD_BITS + at % ELEMENT_BITS; }
-
-/* The nine bits behind each element are not zero, so that nobody can count on it. */
 static void make_input(void)
 {
     fill(by_bits, sizeof by_bits, 1);
     memcpy(by_bytes, by_bits, sizeof by_bytes);
-    fill(words, sizeof words, 2);
-    for (size_t at = 0; at < FRAME_BITS; at++) {
-        size_t to = place_in_words(at);
-        if (bit_of(words, to) != bit_of(by_bits, at))
-            words[to / 8] ^= (uint8_t)(0x80 >> to % 8);
-    }
+    memcpy(proved, by_bits, sizeof proved);
 }
 
 static void compare(void)
 {
     if (memcmp(by_bytes, by_bits, sizeof by_bits) != 0)
         stop("plain C by bytes and bit by bit scrambled differently");
-    for (size_t at = 0; at < FRAME_BITS; at++)
-        if (bit_of(words, place_in_words(at)) != bit_of(by_bits, at))
-            stop("the proved scrambler and plain C scrambled differently");
+    if (memcmp(proved, by_bits, sizeof by_bits) != 0)
+        stop("the proved scrambler and plain C scrambled differently");
 }
 
 /* The three take turns, and the best round of each counts, as for the tasks. Every second round gives the input back, so the
@@ -124,7 +106,7 @@ int main(void)
     printf("%-30s %10.1f %-8s %10.1f %-8s %6.2f %10.1f %-8s %6.2f\n", "the scrambler alone", best[0], "MB/s", best[1], "MB/s",
            best[0] / best[1], best[2], "MB/s", best[0] / best[2]);
     printf("For one super frame; MB are millions of its %d bytes. Ratios are proved / plain C. Each makes the sequence anew "
-           "in each round. All three gave the same bits.\n",
+           "in each round. All three gave the same bytes.\n",
            FRAME_BYTES);
     return 0;
 }

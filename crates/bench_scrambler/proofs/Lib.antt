@@ -1,0 +1,2 @@
+-- What `bench_scrambler` promises, once.
+pub mod Unique
