@@ -6,7 +6,7 @@ ghost use Rattle.sizes.specs.Sizes.{superBytes};
 ghost use Rattle.prelude.specs.Lists.{tabulate, fromIndex};
 ghost use Rattle.bits.specs.Bits.{bitAt, pack};
 ghost use Rattle.scrambler.specs.Scrambler.{o};
-ghost use Rattle.scrambling.specs.Scrambling.{byteSum};
+ghost use Rattle.scrambling.specs.Scrambling.{addedByte};
 
 // The sequence of a super frame, and a byte more, so that none has to be tested.
 const SEQUENCE_BYTES: usize = sizes::SUPER_BYTES + 1;
@@ -22,7 +22,7 @@ fn frame_sequence() -> [u8; SEQUENCE_BYTES]
 // Makes the sequence of a super frame and adds it to the bytes.
 #[no_mangle]
 pub extern "C" fn bench_scramble(bytes: &mut [u8])
-    ensures { λ _. ⌜ now (bytes .exit) ≡ tabulate (length (now (bytes .entry))) (byteSum (now (bytes .entry)) (fromIndex (bitAt (pack (superBytes + 1) o)) 0)) ⌝ }
+    ensures { λ _. ⌜ now (bytes .exit) ≡ tabulate (length (now (bytes .entry))) (addedByte (now (bytes .entry)) (fromIndex (bitAt (pack (superBytes + 1) o)) 0)) ⌝ }
 {
     scrambling::add(&frame_sequence(), 0, bytes);
 }

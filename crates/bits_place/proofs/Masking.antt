@@ -22,7 +22,7 @@ use Rattle.bits_place.specs.Steps.{EightBefore, fronted, roomByte}
 -- ---- a byte
 
 -- the first c bits of x and the last 8 - c of y, as one number
-pub front-is : (c x y : ℕ) → c ≤ 8 → x < 256 → y < 256 → x / 2 ^ (8 - c) * 2 ^ (8 - c) + y % 2 ^ (8 - c) ≡ num 8 (fronted c x y) 0
+front-is : (c x y : ℕ) → c ≤ 8 → x < 256 → y < 256 → x / 2 ^ (8 - c) * 2 ^ (8 - c) + y % 2 ^ (8 - c) ≡ num 8 (fronted c x y) 0
 unfolding fronted
 front-is c x y h hx hy =
     let d = 8 - c in
@@ -45,8 +45,13 @@ one-shifted c =
     let small : 2 ^ (8 - c) ≤ 2 ^ 8 = pow-mono {i = 8 - c} {j = 8} (omega arith) in
     ap (λ (n : ℕ). n % 4294967296) (one-mul (2 ^ (8 - c))) ∙ mod-eq-of-lt (omega arith)
 
-pub front-lt : (c x y : ℕ) → c ≤ 8 → x < 256 → y < 256 → x / 2 ^ (8 - c) * 2 ^ (8 - c) + y % 2 ^ (8 - c) < 256
-front-lt c x y h hx hy = rw (front-is c x y h hx hy) (num-lt 8 (fronted c x y) 0 (fronted-bits c x y))
+-- so the number as the code makes it
+module _ (c x y : ℕ) (h : c ≤ 8) (hx : x < 256) (hy : y < 256) where
+  pub front-made : x / 2 ^ (8 - c) * (1 * 2 ^ (8 - c) % 4294967296) + y % (1 * 2 ^ (8 - c) % 4294967296) ≡ num 8 (fronted c x y) 0
+  front-made = ap (λ (m : ℕ). x / 2 ^ (8 - c) * m + y % m) (one-shifted c) ∙ front-is c x y h hx hy
+
+  pub front-lt : x / 2 ^ (8 - c) * (1 * 2 ^ (8 - c) % 4294967296) + y % (1 * 2 ^ (8 - c) % 4294967296) < 256
+  front-lt = rw front-made (num-lt 8 (fronted c x y) 0 (fronted-bits c x y))
 
 module _ (a z p x old ca cz u : ℕ) (ha : EightBefore p a ca) (hz : EightBefore p z cz) (hu : u ≡ num 8 (fronted cz x old) 0) where
   inside : (i : ℕ) → i < 8 → ltb i cz ≡ ltb (p + i) z

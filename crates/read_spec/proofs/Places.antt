@@ -14,7 +14,7 @@ use Rattle.bits.proofs.Numbers.{num-ext, digit-num}
 use Rattle.bits.proofs.Packing.{bitOf-lt, bitOf-packs}
 use Rattle.scrambler.specs.Scrambler.{o}
 use Rattle.scrambler.proofs.Rule.{o-lt}
-use Rattle.scrambling.specs.Scrambling.{byteSum}
+use Rattle.scrambling.specs.Scrambling.{addedByte}
 use Rattle.scrambling.proofs.Adding.{packs-added}
 use Rattle.hamming.specs.Code.{joined}
 use Rattle.hamming.proofs.Words.{joined-low, joined-high, joined-bit}
@@ -86,10 +86,10 @@ received-lt W f k = bitOf-lt 8 (W (slotOf (superElements * f + k / elementBits))
 
 -- with the sequence added to them, the bytes of the super frame
 pub frame-descrambled : (cap scr s : List ℕ) (f n : ℕ) → n ≡ superBytes → scr ≡ sequence → s ≡ pack superBytes (receivedIn (repaired cap) f)
-    → tabulate n (byteSum s (fromIndex (bitAt scr) 0)) ≡ frameOf cap f
+    → tabulate n (addedByte s (fromIndex (bitAt scr) 0)) ≡ frameOf cap f
 unfolding superIn superFrom receivedIn
 frame-descrambled cap scr s f n l p q =
-    ap (λ (m : ℕ). tabulate m (byteSum s (fromIndex (bitAt scr) 0))) l
+    ap (λ (m : ℕ). tabulate m (addedByte s (fromIndex (bitAt scr) 0))) l
     ∙ packs-added superBytes (receivedIn (repaired cap) f) o (fromIndex (bitAt scr) 0) s (received-lt (repaired cap) f) o-lt q
     (λ i h. ap (λ (t : List ℕ). bitAt t (0 + i)) p ∙ bitOf-packs 8 sequenceBytes o (0 + i) o-lt (omega arith) ∙ ap o (zero-add i))
 

@@ -11,8 +11,8 @@ use Rattle.scrambler.specs.Steps.{period}
 use Rattle.sizes.specs.Sizes.{elementBits, superElements}
 
 -- byte k of s, and the eight bits of g that stand beside it added without carries
-unfoldable pub byteSum : List ℕ → (ℕ → ℕ) → ℕ → ℕ
-byteSum s g k = bitXor (getD s k 0) (byteOf g k)
+unfoldable pub addedByte : List ℕ → (ℕ → ℕ) → ℕ → ℕ
+addedByte s g k = bitXor (getD s k 0) (byteOf g k)
 
 -- one period of the sequence, and a word's bits more, so that a word can be cut out anywhere
 abbrev pub periodBytes : ℕ

@@ -5,7 +5,7 @@ ghost use lib.ListN.{length};
 ghost use Rattle.sizes.specs.Sizes.{wordBytes};
 ghost use Rattle.prelude.specs.Lists.{tabulate, fromIndex};
 ghost use Rattle.bits.specs.Bits.{bitAt, pack, added};
-ghost use Rattle.scrambling.specs.Scrambling.{byteSum, periodPlace};
+ghost use Rattle.scrambling.specs.Scrambling.{addedByte, periodPlace};
 
 // One period of the scrambler's sequence, and a word's bits more, so that a word can be cut out anywhere.
 pub const PERIOD_BYTES: usize = 8208;
@@ -13,7 +13,7 @@ pub const PERIOD_BYTES: usize = 8208;
 // The same as `add` where the sequence reaches past the bytes: no byte is tested.
 fn add_inside(sequence: &[u8], at: usize, out: &mut [u8])
     requires { ⌜ at / 8 + length (now out) < length (now sequence) ⌝ }
-    ensures { λ _. ⌜ now (out .exit) ≡ tabulate (length (now (out .entry))) (byteSum (now (out .entry)) (fromIndex (bitAt (now (sequence .entry))) at)) ⌝ }
+    ensures { λ _. ⌜ now (out .exit) ≡ tabulate (length (now (out .entry))) (addedByte (now (out .entry)) (fromIndex (bitAt (now (sequence .entry))) at)) ⌝ }
 {
     let first = at / 8;
     for k in 0..out.len() {
@@ -23,7 +23,7 @@ fn add_inside(sequence: &[u8], at: usize, out: &mut [u8])
 
 // The same anywhere.
 fn add_tested(sequence: &[u8], at: usize, out: &mut [u8])
-    ensures { λ _. ⌜ now (out .exit) ≡ tabulate (length (now (out .entry))) (byteSum (now (out .entry)) (fromIndex (bitAt (now (sequence .entry))) at)) ⌝ }
+    ensures { λ _. ⌜ now (out .exit) ≡ tabulate (length (now (out .entry))) (addedByte (now (out .entry)) (fromIndex (bitAt (now (sequence .entry))) at)) ⌝ }
 {
     let first = at / 8;
     for k in 0..out.len() {
@@ -36,7 +36,7 @@ fn add_tested(sequence: &[u8], at: usize, out: &mut [u8])
 // Adds the sequence from bit `at` on to the bits of out, eight at a time: a super frame, an element or a part of one, scrambled or
 // descrambled. Past its end the sequence adds nothing.
 pub fn add(sequence: &[u8], at: usize, out: &mut [u8])
-    ensures { λ _. ⌜ now (out .exit) ≡ tabulate (length (now (out .entry))) (byteSum (now (out .entry)) (fromIndex (bitAt (now (sequence .entry))) at)) ⌝ }
+    ensures { λ _. ⌜ now (out .exit) ≡ tabulate (length (now (out .entry))) (addedByte (now (out .entry)) (fromIndex (bitAt (now (sequence .entry))) at)) ⌝ }
 {
     if at / 8 + out.len() < sequence.len() {
         add_inside(sequence, at, out);

@@ -7,7 +7,7 @@ use lib.ListN.{length}
 use borrow.Author.Needs.{needs}
 use Rattle.prelude.specs.Lists.{tabulate, fromIndex}
 use Rattle.bits.specs.Bits.{bitAt}
-use Rattle.scrambling.specs.Scrambling.{byteSum}
+use Rattle.scrambling.specs.Scrambling.{addedByte}
 use Rattle.bench_scrambler.proofs.bench_scramble.Statement.{statement}
 use Rattle.bench_scrambler.proofs.bench_scramble.Tie as tie
 
@@ -28,7 +28,7 @@ returns c =
     let a = c .before .before in
     let s = a .before .before .before in
     let b = now (s .before .before .args .bytes) in
-    a .add .ensures ∙ ap (λ (l : List ℕ). tabulate (length b) (byteSum b (fromIndex (bitAt l) 0))) (s .frame-sequence .ensures)
+    a .add .ensures ∙ ap (λ (l : List ℕ). tabulate (length b) (addedByte b (fromIndex (bitAt l) 0))) (s .frame-sequence .ensures)
 
 pub bench-scramble-spec : {M : Type 1} → statement M
 bench-scramble-spec =

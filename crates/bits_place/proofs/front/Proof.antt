@@ -1,9 +1,12 @@
 -- `bits_place::front` meets its contract: two divisions by the mask's lowest place. Assumes nothing.
-use Prim.Native.Nat.{_<_}
+use Prim.Native.Nat.{ℕ, _-_}
+use mathlib.Core.Path.{ap₂, _∙_}
 use native.Mathlib.Omega.{arith}
 use lib.Pow.{pow-pos}
 use borrow.Author.Needs.{needs}
-use Rattle.bits_place.proofs.Masking.{one-shifted, front-lt, front-is}
+use Rattle.bits.specs.Bits.{num}
+use Rattle.bits_place.specs.Steps.{fronted}
+use Rattle.bits_place.proofs.Masking.{one-shifted, front-lt, front-made}
 use Rattle.bits_place.proofs.front.Statement.{statement}
 use Rattle.bits_place.proofs.front.Tie as tie
 
@@ -27,32 +30,32 @@ shr-result c = search needs
 
 mul-result : tie.Need-mul-result
 mul-result c =
-    let x = c .wide .ensures in
-    let n = front-lt (c .before .args .c) (c .wide .result) 0 (c .before .pre) (x .small) (omega arith) in
-    rw (one-shifted (c .before .args .c)) (record { fits = omega (arith, n) })
+    record { fits = omega (arith, front-lt (c .before .args .c) (c .wide .result) 0 (c .before .pre) (c .wide .ensures .small) (omega arith)) }
 
 wide-requires-2 : tie.Need-wide-requires-2
 wide-requires-2 c κs = search needs
 
 rem-result : tie.Need-rem-result
-rem-result c = rw (one-shifted (c .before .before .args .c)) (pow-pos _)
+rem-result c = let k = c .before .before .args .c in omega (arith, one-shifted k, pow-pos (8 - k))
 
 add-result : tie.Need-add-result
 add-result c =
-    let n = front-lt (c .before .before .args .c) (c .before .wide .result) (c .wide2 .result) (c .before .before .pre) (c .before .wide .ensures .small) (c .wide2 .ensures .small) in
-    rw (one-shifted (c .before .before .args .c)) (record { fits = omega (arith, n) })
+    let a = c .before .before in
+    let l = front-lt (a .args .c) (c .before .wide .result) (c .wide2 .result) (a .pre) (c .before .wide .ensures .small) (c .wide2 .ensures .small) in
+    record { fits = omega (arith, l) }
 
 cast-result-2 : tie.Need-cast-result-2
 cast-result-2 c =
-    let n = front-lt (c .before .before .args .c) (c .before .wide .result) (c .wide2 .result) (c .before .before .pre) (c .before .wide .ensures .small) (c .wide2 .ensures .small) in
-    rw (one-shifted (c .before .before .args .c)) (record { fits = n })
+    let a = c .before .before in
+    record { fits = front-lt (a .args .c) (c .before .wide .result) (c .wide2 .result) (a .pre) (c .before .wide .ensures .small) (c .wide2 .ensures .small) }
 
 returns : tie.Need-returns
 returns c =
-    let a = c .before .before .args in
-    let x = c .before .wide .ensures in
-    let y = c .wide2 .ensures in
-    rw (one-shifted (a .c), ← x .same, ← y .same) (front-is (a .c) (c .before .wide .result) (c .wide2 .result) (c .before .before .pre) (x .small) (y .small))
+    let a = c .before .before in
+    let x = c .before .wide in
+    let y = c .wide2 in
+    front-made (a .args .c) (x .result) (y .result) (a .pre) (x .ensures .small) (y .ensures .small)
+    ∙ ap₂ (λ (u v : ℕ). num 8 (fronted (a .args .c) u v) 0) (x .ensures .same) (y .ensures .same)
 
 pub front-spec : {M : Type 1} → statement M
 front-spec =

@@ -7,13 +7,13 @@ use Rattle.prelude.specs.Lists.{fromIndex}
 use Rattle.bits.specs.Bits.{bitAt}
 use Rattle.prelude.proofs.Lists.{Filled, filled-more, filled-here}
 use Rattle.prelude.proofs.LoopLaws.{loops}
-use Rattle.scrambling.specs.Scrambling.{byteSum}
+use Rattle.scrambling.specs.Scrambling.{addedByte}
 use Rattle.scrambling.proofs.Adding.{byte-summed}
 use Rattle.scrambling.proofs.add_tested.Statement.{statement}
 use Rattle.scrambling.proofs.add_tested.Tie as tie
 
 abbrev Inv-loop : tie.InvT-loop
-Inv-loop sequence at out₀ first k₀ k-end out k = Filled k (byteSum out₀ (fromIndex (bitAt sequence) at)) out₀ out
+Inv-loop sequence at out₀ first k₀ k-end out k = Filled k (addedByte out₀ (fromIndex (bitAt sequence) at)) out₀ out
 
 abbrev μ-loop : tie.MeasureT-loop
 μ-loop sequence at out₀ first k₀ k-end out k = length out₀ - k

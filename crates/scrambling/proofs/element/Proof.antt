@@ -10,7 +10,7 @@ use Rattle.sizes.specs.Sizes.{wordBytes}
 use Rattle.prelude.specs.Lists.{tabulate, fromIndex}
 use Rattle.bits.specs.Bits.{bitAt, pack, Bytes}
 use Rattle.bits.proofs.Packing.{bitOf-lt, packs-bitOf}
-use Rattle.scrambling.specs.Scrambling.{byteSum, periodPlace}
+use Rattle.scrambling.specs.Scrambling.{addedByte, periodPlace}
 use Rattle.scrambling.proofs.Adding.{packs-added}
 use Rattle.scrambling.proofs.element.Statement.{statement}
 use Rattle.scrambling.proofs.element.Tie as tie
@@ -33,7 +33,7 @@ returns c =
     let bytes : Bytes v = λ k. let x : Fits w8 (getD v k 0) = search needs in x .fits in
     let long : length v ≡ wordBytes = search needs in
     let own : v ≡ pack wordBytes (bitAt v) = sym (packs-bitOf 8 v bytes) ∙ ap (λ (n : ℕ). pack n (bitAt v)) long in
-    c .before .add .ensures ∙ ap (λ (n : ℕ). tabulate n (byteSum v (fromIndex (bitAt period) (at-place .place .result)))) long
+    c .before .add .ensures ∙ ap (λ (n : ℕ). tabulate n (addedByte v (fromIndex (bitAt period) (at-place .place .result)))) long
     ∙ packs-added wordBytes (bitAt v) (fromIndex (bitAt period) (periodPlace (a .e))) (fromIndex (bitAt period) (at-place .place .result)) v (bitOf-lt 8 v)
     (λ i. bitOf-lt 8 period _) own (λ i l. ap (λ (k : ℕ). bitAt period (k + i)) (at-place .place .ensures))
 
