@@ -6,7 +6,7 @@ ghost use Rattle.sizes.specs.Sizes.{superBytes};
 ghost use Rattle.prelude.specs.Lists.{tabulate, fromIndex};
 ghost use Rattle.bits.specs.Bits.{bitAt, pack};
 ghost use Rattle.scrambler.specs.Scrambler.{o};
-ghost use Rattle.scrambling.specs.Scrambling.{addedByte};
+ghost use Rattle.scrambling.specs.Steps.{addedByte};
 
 // The sequence of a super frame, and a byte more, so that none has to be tested.
 const SEQUENCE_BYTES: usize = sizes::SUPER_BYTES + 1;

@@ -1,6 +1,6 @@
 -- Bits at their places, by bytes. Assumes nothing.
 use Prim.Native.Nat.{ℕ, _+_, _-_, _*_, _/_, _%_, _^_, _≤_, _<_}
-use mathlib.Core.Bool.{Bool, true, false, cond, _&&_}
+use mathlib.Core.Bool.{Bool, cond, _&&_}
 use mathlib.Core.Path.{_≡_, refl, sym, ap, ap₂, _∙_}
 use mathlib.Core.List.{List}
 use native.Mathlib.Nat.{zero-add, zero-div, one-mul, mod-eq-of-lt}
@@ -16,8 +16,7 @@ use Rattle.prelude.proofs.Lists.{getD-tabulate}
 use Rattle.bits.specs.Bits.{num, digit, bitOf, bitAt, byteOf, pack, Bits}
 use Rattle.bits.proofs.Numbers.{num-lt, num-ext, num-split, num-front, num-back, num-digit, digit-num, digit-lt}
 use Rattle.bits.proofs.Packing.{bitOf-lt, bitOf-at, packs-ext}
-use Rattle.bits_place.specs.Masks.{placedAt, masked}
-use Rattle.bits_place.specs.Steps.{EightBefore, fronted, roomByte}
+use Rattle.bits_place.specs.Steps.{placedAt, masked, EightBefore, fronted, roomByte}
 
 -- ---- a byte
 

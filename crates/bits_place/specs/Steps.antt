@@ -1,10 +1,21 @@
--- What the small functions of `bits_place` answer. Assumes nothing: these are definitions.
+-- Bits at their places: a field that begins somewhere, and a stretch of places that is taken from other bits; and what the small functions
+-- answer. Assumes nothing: these are definitions.
 use Prim.Native.Nat.{ℕ, _+_, _-_, _≤_, _<_}
-use mathlib.Core.Bool.{cond}
+use mathlib.Core.Bool.{cond, _&&_}
 use mathlib.Core.List.{List}
-use lib.Dec.{ltb}
+use lib.Dec.{ltb, leb}
 use Rattle.bits.specs.Bits.{digit, bitAt, byteOf}
 use Rattle.sizes.specs.Sizes.{wordBytes}
+
+-- from place q on, the bits of a field f that begins at place a: zeros before it
+unfoldable pub placedAt : ℕ → ℕ → (ℕ → ℕ) → ℕ → ℕ
+placedAt a q f i = cond (ltb (q + i) a) 0 (f (q + i - a))
+
+-- from place q on, f in the places a .. z - 1, and g in the others
+unfoldable pub masked : ℕ → ℕ → ℕ → (ℕ → ℕ) → (ℕ → ℕ) → ℕ → ℕ
+masked a z q f g i = cond (leb a (q + i) && ltb (q + i) z) (f i) (g i)
+
+-- ---- a byte at a time
 
 -- r of the eight places from p on lie before place a
 pub record EightBefore (p a r : ℕ) : Type 0 where

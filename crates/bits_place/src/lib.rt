@@ -3,8 +3,7 @@ ghost use mathlib.Core.Path.{_≡_};
 ghost use Prim.Native.Nat.{_≤_, _<_};
 ghost use Rattle.sizes.specs.Sizes.{wordBytes};
 ghost use Rattle.bits.specs.Bits.{num, digit, bitAt, pack};
-ghost use Rattle.bits_place.specs.Masks.{placedAt, masked};
-ghost use Rattle.bits_place.specs.Steps.{EightBefore, fronted, roomByte};
+ghost use Rattle.bits_place.specs.Steps.{placedAt, masked, EightBefore, fronted, roomByte};
 
 // Sixteen bytes of zeros, and then a word.
 const ROOM_BYTES: usize = 2 * sizes::WORD_BYTES;

@@ -14,7 +14,7 @@ use Rattle.hamming_table.specs.Steps.{byteTable, wordByTables}
 use Rattle.hamming.proofs.Words.{coded-ext, coded-zero}
 use Rattle.hamming_table.proofs.Tabled.{by-word}
 use Rattle.scrambler.specs.Scrambler.{o}
-use Rattle.scrambling.specs.Scrambling.{Agree, onePeriod, framePlace, periodPlace}
+use Rattle.scrambling.specs.Steps.{Agree, onePeriod, framePlace, periodPlace}
 use Rattle.scrambling.proofs.Adding.{scrambled-bit}
 use Rattle.line_order.specs.Order.{byteBy, lineOrder}
 use Rattle.line_order.proofs.Groups.{group-laid}

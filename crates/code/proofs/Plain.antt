@@ -20,7 +20,7 @@ use Rattle.line.specs.Fec.{fecBit, infoBit, parityBit, blockCrc, mbasOf}
 use Rattle.line.specs.Frames.{superOf}
 use Rattle.line.proofs.FecLaws.{fec-info, fec-crc, fec-mbas, fec-parity}
 use Rattle.line.proofs.FrameLaws.{super-pad, super-fec}
-use Rattle.scrambling.specs.Scrambling.{Agree}
+use Rattle.scrambling.specs.Steps.{Agree}
 use Rattle.code.specs.Steps.{guardBits, plainBit, tailBit}
 use Rattle.code.proofs.Tails.{tail-low, tail-mid, tail-high, tail-bits}
 

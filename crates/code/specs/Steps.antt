@@ -8,7 +8,7 @@ use lib.ListN.{getD, length}
 use Rattle.bits.specs.Bits.{digit}
 use Rattle.hamming_matrix.specs.Steps.{tailTable}
 use Rattle.hamming_table.specs.Steps.{byteTable}
-use Rattle.scrambling.specs.Scrambling.{onePeriod}
+use Rattle.scrambling.specs.Steps.{onePeriod}
 use Rattle.sizes.specs.Sizes.{crcBits, mbasBits, fecBlocks, elementBits, superElements, infoLength, parityLength, captureLength, mostFrames}
 use Rattle.line.specs.Fec.{blockCrc}
 use Rattle.line.specs.Frames.{superOf}

@@ -11,7 +11,7 @@ ghost use Rattle.crc.specs.Steps.{entries};
 ghost use Rattle.sizes.specs.Sizes.{infoBytes, fecBlocks, superElements, infoLength, captureLength, words, mostFrames, wordBytes};
 ghost use Rattle.line.specs.Fec.{fecBit, blockCrc};
 ghost use Rattle.line.specs.Words.{wordsOf};
-ghost use Rattle.scrambling.specs.Scrambling.{Agree};
+ghost use Rattle.scrambling.specs.Steps.{Agree};
 ghost use Rattle.code.specs.Code.{captureOf, codeRows, codeAnswer, codeLeaves};
 ghost use Rattle.code.specs.Steps.{plainBit, tailBit, entry, Crcs, Granted, Ready};
 

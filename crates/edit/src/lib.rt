@@ -14,7 +14,7 @@ ghost use Rattle.hamming.specs.Code.{checksOf};
 ghost use Rattle.hamming_table.specs.Steps.{byteTable};
 ghost use Rattle.crc.specs.Remainder.{remFrom};
 ghost use Rattle.crc.specs.Crc.{width, poly};
-ghost use Rattle.scrambling.specs.Scrambling.{Agree, onePeriod};
+ghost use Rattle.scrambling.specs.Steps.{Agree, onePeriod};
 ghost use Rattle.sizes.specs.Sizes.{blockBits, fecBits, fecBlocks, elementBits, superElements, fecElements, captureLength, words, blocksOf};
 ghost use Rattle.sizes.specs.Sizes.{parityFrom, listLength, mostFrames, wordBytes};
 ghost use Rattle.line_order.specs.Order.{wordIn};

@@ -13,12 +13,12 @@ use Rattle.bits.proofs.Packing.{bitOf-lt, bitOf-packs, packs-ext}
 use Rattle.prelude.proofs.Common.{by-bound, cond-bit}
 use Rattle.prelude.proofs.Lists.{tabulate-ext, tabulate-add}
 use Rattle.bits.proofs.Numbers.{num-ext, num-zero, num-part, digit-lt}
-use Rattle.bits_place.specs.Masks.{placedAt, masked}
+use Rattle.bits_place.specs.Steps.{placedAt, masked}
 use Rattle.bits_place.proofs.Masking.{placed-bits, masked-bits}
 use Rattle.scrambler.specs.Scrambler.{o}
 use Rattle.hamming.specs.Code.{codeWord}
 use Rattle.hamming.proofs.Words.{coded-ext}
-use Rattle.scrambling.specs.Scrambling.{Agree, onePeriod, framePlace, periodPlace}
+use Rattle.scrambling.specs.Steps.{Agree, onePeriod, framePlace, periodPlace}
 use Rattle.scrambling.proofs.Adding.{sequence-from}
 use Rattle.sizes.specs.Sizes.{infoBits, crcBits, mbasBits, mbasFrom, parityFrom, fecBits, fecBlocks, elementBits, superElements, fecElements, infoElements}
 use Rattle.sizes.specs.Sizes.{blockBits, wordBytes, wordBits}

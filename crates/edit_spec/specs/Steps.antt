@@ -6,10 +6,10 @@ use mathlib.Core.List.{List, _++_}
 use lib.ListN.{length, set, drop}
 use lib.Dec.{ltb}
 use Rattle.bits.specs.Bits.{digit, bitAt, pack, added}
-use Rattle.bits_place.specs.Masks.{placedAt, masked}
+use Rattle.bits_place.specs.Steps.{placedAt, masked}
 use Rattle.prelude.specs.Loops.{count}
 use Rattle.scrambler.specs.Scrambler.{o}
-use Rattle.scrambling.specs.Scrambling.{onePeriod, framePlace}
+use Rattle.scrambling.specs.Steps.{onePeriod, framePlace}
 use Rattle.hamming.specs.Code.{coded}
 use Rattle.hamming_matrix.specs.Steps.{tailTable}
 use Rattle.line_order.specs.Steps.{doneTo, putWord}

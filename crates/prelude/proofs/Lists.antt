@@ -1,5 +1,5 @@
 -- The laws of `tabulate`, and of a loop that fills a buffer. Assumes nothing.
-use Prim.Native.Nat.{ℕ, zero, suc, _+_, _-_, _≤_, _<_}
+use Prim.Native.Nat.{ℕ, zero, suc, _+_, _≤_, _<_}
 use mathlib.Core.Path.{_≡_, refl, sym, ap, _∙_}
 use mathlib.Core.List.{List, [], _∷_, _++_, append-nil, append-assoc}
 use native.Mathlib.Nat.{not-suc-le-zero, le-of-suc-le-suc, zero-add, suc-add, add-zero}
@@ -116,18 +116,6 @@ filled-here {A} x {i} {f} {d} {out} e = rw (e .is) (at-length (tabulate i f) (le
 pub filled-at : {A : Type 0} (x : A) {i j : ℕ} {f : ℕ → A} {d out : List A} → Filled i f d out → j < i → getD out j x ≡ f j
 filled-at {A} x {i} {j} {f} {d} {out} e l =
     rw (e .is) (List·getD-append (tabulate i f) (drop i d) x j (rw length-tabulate l) ∙ getD-tabulate x i f j l)
-
--- a loop that stops where the buffer holds what f says already
-pub filled-rest : {A : Type 0} (x : A) {i : ℕ} {f : ℕ → A} {d out : List A} → Filled i f d out → ((j : ℕ) → i ≤ j → j < length d → getD d j x ≡ f j)
-    → out ≡ tabulate (length d) f
-filled-rest {A} x {i} {f} {d} {out} e h =
-    let n = length d - i in
-    let len : length (drop i d) ≡ n = length-drop i d in
-    let q : i + n ≡ length d = omega (arith, e .within) in
-    e .is
-    ∙ ap (λ (s : List A). tabulate i f ++ s)
-    (is-table x n (λ j. f (i + j)) (drop i d) len (λ j l. getD-drop i d j x ∙ h (i + j) (omega arith) (omega (arith, e .within))))
-    ∙ sym (tabulate-add i n f) ∙ ap (λ (m : ℕ). tabulate m f) q
 
 -- a part that lies in the list has its length
 pub part-long : (a k : ℕ) (s : List ℕ) → a + k ≤ length s → length (take k (drop a s)) ≡ k

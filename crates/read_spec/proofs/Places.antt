@@ -14,7 +14,7 @@ use Rattle.bits.proofs.Numbers.{num-ext, digit-num}
 use Rattle.bits.proofs.Packing.{bitOf-lt, bitOf-packs}
 use Rattle.scrambler.specs.Scrambler.{o}
 use Rattle.scrambler.proofs.Rule.{o-lt}
-use Rattle.scrambling.specs.Scrambling.{addedByte}
+use Rattle.scrambling.specs.Steps.{addedByte}
 use Rattle.scrambling.proofs.Adding.{packs-added}
 use Rattle.hamming.specs.Code.{joined}
 use Rattle.hamming.proofs.Words.{joined-low, joined-high, joined-bit}

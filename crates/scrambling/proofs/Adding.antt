@@ -16,7 +16,7 @@ use Rattle.scrambler.specs.Steps.{period}
 use Rattle.scrambler.proofs.Rule.{o-lt}
 use Rattle.scrambler.proofs.Period.{within-period}
 use Rattle.sizes.specs.Sizes.{wordBytes, wordBits}
-use Rattle.scrambling.specs.Scrambling.{addedByte, periodBytes, onePeriod, framePlace, periodPlace}
+use Rattle.scrambling.specs.Steps.{addedByte, periodBytes, onePeriod, framePlace, periodPlace}
 
 -- the sequence from bit k on, out of the one period that was made
 pub sequence-from : (scr : List ℕ) (k i : ℕ) → scr ≡ onePeriod → i < wordBits → bitAt scr (k % period + i) ≡ o (k + i)

@@ -1,2 +1,2 @@
 -- What the contracts of `scrambling` are stated in.
-pub mod Scrambling
+pub mod Steps

@@ -5,7 +5,7 @@ ghost use lib.ListN.{length};
 ghost use Rattle.sizes.specs.Sizes.{wordBytes};
 ghost use Rattle.prelude.specs.Lists.{tabulate, fromIndex};
 ghost use Rattle.bits.specs.Bits.{bitAt, pack, added};
-ghost use Rattle.scrambling.specs.Scrambling.{addedByte, periodPlace};
+ghost use Rattle.scrambling.specs.Steps.{addedByte, periodPlace};
 
 // One period of the scrambler's sequence, and a word's bits more, so that a word can be cut out anywhere.
 pub const PERIOD_BYTES: usize = 8208;

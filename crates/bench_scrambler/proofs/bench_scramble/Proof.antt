@@ -7,7 +7,7 @@ use lib.ListN.{length}
 use borrow.Author.Needs.{needs}
 use Rattle.prelude.specs.Lists.{tabulate, fromIndex}
 use Rattle.bits.specs.Bits.{bitAt}
-use Rattle.scrambling.specs.Scrambling.{addedByte}
+use Rattle.scrambling.specs.Steps.{addedByte}
 use Rattle.bench_scrambler.proofs.bench_scramble.Statement.{statement}
 use Rattle.bench_scrambler.proofs.bench_scramble.Tie as tie
 

@@ -1,10 +1,10 @@
 -- `bits_place::behind` meets its contract: the room is filled, and the word cut out of it. Assumes nothing.
-use Prim.Native.Nat.{_-_, _≤_}
+use Prim.Native.Nat.{_-_}
 use mathlib.Core.Path.{refl, _∙_}
 use native.Mathlib.Omega.{arith}
 use denote.Ref.{now}
 use Rattle.bits.specs.Bits.{bitAt}
-use Rattle.prelude.proofs.Lists.{Filled, filled-more, filled-all}
+use Rattle.prelude.proofs.Lists.{Filled, filled-all}
 use Rattle.prelude.proofs.LoopLaws.{loops}
 use Rattle.bits_place.specs.Steps.{roomByte}
 use Rattle.bits_place.proofs.Masking.{nothing-placed, room-placed}

@@ -5,7 +5,7 @@ use Rattle.sizes.specs.Sizes.{wordBytes}
 use Rattle.bits.specs.Bits.{bitAt, byteOf}
 use Rattle.prelude.proofs.Lists.{Filled, filled-more}
 use Rattle.prelude.proofs.LoopLaws.{loops}
-use Rattle.bits_place.specs.Masks.{masked}
+use Rattle.bits_place.specs.Steps.{masked}
 use Rattle.bits_place.proofs.Masking.{word-under}
 use Rattle.bits_place.proofs.under.Statement.{statement}
 use Rattle.bits_place.proofs.under.Tie as tie

@@ -1,7 +1,7 @@
 -- `edit::crc_change` meets its contract: an element a turn, and then the zeros at once. Assumes nothing.
 use Prim.Native.Nat.{ℕ, _+_, _-_, _*_, _/_, _%_, _≤_, _<_}
 use mathlib.Core.List.{List}
-use mathlib.Core.Path.{_≡_, refl, ap, _∙_}
+use mathlib.Core.Path.{_≡_, ap, _∙_}
 use native.Mathlib.Omega.{arith}
 use denote.Ref.{now}
 use Rattle.prelude.specs.Lists.{fromIndex}
@@ -11,9 +11,8 @@ use Rattle.crc.specs.Crc.{crcRem, crcShiftN}
 use Rattle.crc.proofs.Changes.{crc-rem-piece}
 use Rattle.line_order.specs.Order.{wordIn}
 use Rattle.line.specs.Words.{fecIn}
-use Rattle.sizes.specs.Sizes.{infoBits, elementBits, fecElements, mostFrames}
+use Rattle.sizes.specs.Sizes.{infoBits, elementBits, fecElements}
 use Rattle.edit_spec.specs.Edit.{fecOf, blockFrom, change, elementLocal}
-use Rattle.edit_spec.specs.Steps.{firstElement}
 use Rattle.edit_spec.proofs.Listing.{own-element, own-fec, own-in}
 use Rattle.edit_spec.proofs.Changing.{crc-changes}
 use borrow.Author.Needs.{needs}

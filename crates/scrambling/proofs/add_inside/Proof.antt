@@ -8,7 +8,7 @@ use Rattle.prelude.specs.Lists.{fromIndex}
 use Rattle.bits.specs.Bits.{bitAt}
 use Rattle.prelude.proofs.Lists.{Filled, filled-more, filled-here}
 use Rattle.prelude.proofs.LoopLaws.{loops}
-use Rattle.scrambling.specs.Scrambling.{addedByte}
+use Rattle.scrambling.specs.Steps.{addedByte}
 use Rattle.scrambling.proofs.Adding.{byte-summed}
 use Rattle.scrambling.proofs.add_inside.Statement.{statement}
 use Rattle.scrambling.proofs.add_inside.Tie as tie

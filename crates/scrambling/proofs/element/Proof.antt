@@ -10,7 +10,7 @@ use Rattle.sizes.specs.Sizes.{wordBytes}
 use Rattle.prelude.specs.Lists.{tabulate, fromIndex}
 use Rattle.bits.specs.Bits.{bitAt, pack, Bytes}
 use Rattle.bits.proofs.Packing.{bitOf-lt, packs-bitOf}
-use Rattle.scrambling.specs.Scrambling.{addedByte, periodPlace}
+use Rattle.scrambling.specs.Steps.{addedByte, periodPlace}
 use Rattle.scrambling.proofs.Adding.{packs-added}
 use Rattle.scrambling.proofs.element.Statement.{statement}
 use Rattle.scrambling.proofs.element.Tie as tie
