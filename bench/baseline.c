@@ -555,10 +555,13 @@ static void code_slots(const struct word *e, size_t count, uint8_t *capture)
     }
 }
 
+/* The upper six bits of the seven-bit number of FEC block t. */
+static uint64_t mbas_of(uint64_t m0, uint64_t t) { return (m0 + t & 127) >> 1; }
+
 zr_answer zr400_code(uint64_t n, uint64_t m0, const uint8_t *info, size_t info_length, const uint8_t *parity,
                      size_t parity_length, uint8_t *capture, size_t capture_length)
 {
-    if (!n_is_stated(n) || m0 > 63)
+    if (!n_is_stated(n) || m0 > 127)
         return refused(1, 0);
     if (info_length != ZR400_INFORMATION_BYTES(n) || parity_length != ZR400_PARITY_BYTES(n) ||
         capture_length != ZR400_CAPTURE_BYTES(n))
@@ -567,7 +570,7 @@ zr_answer zr400_code(uint64_t n, uint64_t m0, const uint8_t *info, size_t info_l
     memset(e, 0, FILLER * sizeof *e);
     for (uint64_t f = 0; f < n; f++) {
         for (size_t i = 0; i < 5; i++)
-            fill_block(e + FILLER + BLOCK_ELEMENTS * i, i, (m0 + 5 * f + i) & 63, info + INFO_BYTES * (5 * f + i),
+            fill_block(e + FILLER + BLOCK_ELEMENTS * i, i, mbas_of(m0, 5 * f + i), info + INFO_BYTES * (5 * f + i),
                        parity + PARITY_BYTES * (5 * f + i));
         code_slots(e, ELEMENTS, capture + 16 * ELEMENTS * f);
         memcpy(e, e + ELEMENTS, FILLER * sizeof *e);
@@ -641,7 +644,7 @@ static void look_at_frame(const struct word *e, uint64_t f, uint64_t m0, struct 
         uint64_t t = 5 * f + i;
         const struct word *block = e + BLOCK_ELEMENTS * i;
         struct word field = add(block[INFO_ELEMENTS], key_of[(BLOCK_ELEMENTS * i + INFO_ELEMENTS) % KEYS]);
-        if ((field.high >> 26 & 63) != ((m0 + t) & 63))
+        if ((field.high >> 26 & 63) != mbas_of(m0, t))
             note(found, 6, t);
         if (field.high >> 32 != crc_of_block(block, i))
             note(found, 7, t);
@@ -701,7 +704,7 @@ static void look(const uint8_t *capture, uint64_t n, uint64_t m0, struct word *e
 zr_answer zr400_read(uint64_t n, uint64_t m0, const uint8_t *capture, size_t capture_length, uint8_t *info,
                      size_t info_length, uint8_t *parity, size_t parity_length)
 {
-    if (!n_is_stated(n) || m0 > 63)
+    if (!n_is_stated(n) || m0 > 127)
         return refused(1, 0);
     if (capture_length != ZR400_CAPTURE_BYTES(n) || info_length != ZR400_INFORMATION_BYTES(n) ||
         parity_length != ZR400_PARITY_BYTES(n))

@@ -365,10 +365,10 @@ struct coded {
     zr_answer answer;
 };
 
-static struct coded coded_capture(uint64_t n)
+static struct coded counted_capture(uint64_t n, uint64_t m0)
 {
     struct generator g = {100 + n};
-    struct coded c = {.n = n, .m0 = 7 * n};
+    struct coded c = {.n = n, .m0 = m0};
     c.il = ZR400_INFORMATION_BYTES(n);
     c.pl = ZR400_PARITY_BYTES(n);
     c.cl = ZR400_CAPTURE_BYTES(n);
@@ -378,6 +378,8 @@ static struct coded coded_capture(uint64_t n)
     c.answer = code(n, c.m0, c.info, c.il, c.parity, c.pl, c.capture, c.cl);
     return c;
 }
+
+static struct coded coded_capture(uint64_t n) { return counted_capture(n, 7 * n); }
 
 static void refused_code(const char *label, uint64_t n, uint64_t m0, struct coded *c, size_t il, size_t pl, size_t cl)
 {
@@ -392,17 +394,22 @@ static void refused_code(const char *label, uint64_t n, uint64_t m0, struct code
     free(capture);
 }
 
+static void say_coded(struct coded c)
+{
+    printf("N %lu m0 %lu: " SHOWN " digest %016lx\n", c.n, c.m0, NUMBERS(c.answer), digest(c.capture, c.cl));
+}
+
 static void coded(void)
 {
-    static const uint64_t sizes[4] = {1, 2, 3, 8};
-    for (int k = 0; k < 4; k++) {
-        struct coded c = coded_capture(sizes[k]);
-        printf("N %lu m0 %lu: " SHOWN " digest %016lx\n", c.n, c.m0, NUMBERS(c.answer), digest(c.capture, c.cl));
-    }
+    static const uint64_t sizes[4] = {1, 2, 3, 8}, edges[5] = {0, 63, 64, 126, 127};
+    for (int k = 0; k < 4; k++)
+        say_coded(coded_capture(sizes[k]));
+    for (int k = 0; k < 5; k++)
+        say_coded(counted_capture(1, edges[k]));
     struct coded c = coded_capture(1);
     refused_code("N 0", 0, 7, &c, c.il, c.pl, c.cl);
     refused_code("N 9", 9, 7, &c, c.il, c.pl, c.cl);
-    refused_code("m0 64", 1, 64, &c, c.il, c.pl, c.cl);
+    refused_code("m0 128", 1, 128, &c, c.il, c.pl, c.cl);
     refused_code("information one byte short", 1, 7, &c, c.il - 1, c.pl, c.cl);
     refused_code("parity one byte long", 1, 7, &c, c.il, c.pl + 1, c.cl);
     refused_code("capture one byte short", 1, 7, &c, c.il, c.pl, c.cl - 1);
@@ -484,6 +491,8 @@ static void readings_of(uint64_t n)
     say(LABEL("N %lu last parity bit turned", n), whole.m0);
     say(LABEL("N %lu undamaged", n), whole.m0);
     say(LABEL("N %lu m0 one more", n), whole.m0 + 1);
+    say(LABEL("N %lu m0 one less", n), whole.m0 - 1);
+    say(LABEL("N %lu m0 64 more", n), whole.m0 + 64);
 }
 
 static void refused_reading(const char *name, uint64_t n, uint64_t m0, size_t cl, size_t il, size_t pl)
@@ -499,7 +508,7 @@ static void readings(void)
     whole = coded_capture(1);
     refused_reading("N 0", 0, 7, whole.cl, whole.il, whole.pl);
     refused_reading("N 9", 9, 7, whole.cl, whole.il, whole.pl);
-    refused_reading("m0 64", 1, 64, whole.cl, whole.il, whole.pl);
+    refused_reading("m0 128", 1, 128, whole.cl, whole.il, whole.pl);
     refused_reading("capture one byte short", 1, 7, whole.cl - 1, whole.il, whole.pl);
     refused_reading("information one byte long", 1, 7, whole.cl, whole.il + 1, whole.pl);
     refused_reading("parity one byte short", 1, 7, whole.cl, whole.il, whole.pl - 1);

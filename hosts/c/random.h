@@ -87,7 +87,7 @@ static uint64_t random_damage(struct generator *g, uint8_t *capture, size_t word
             turn_word(capture, w, below(g, ELEMENT_BITS));
         }
     } else if (kind == 4) {
-        m0 = (m0 % 64 + 1 + below(g, 63)) % 64;
+        m0 = below(g, 2) == 0 ? m0 ^ 1 : (m0 % 128 + 1 + below(g, 127)) % 128; /* m0 ^ 1 has the same half */
     }
     printf("damage %lu, read with m0 %lu\n", kind, m0);
     return m0;
@@ -120,7 +120,7 @@ static void random_edit(struct generator *g, uint64_t n, uint64_t blocks, uint8_
 static void random_capture(struct generator *g)
 {
     uint64_t n = below(g, 5) == 0 ? nasty(g, 8) : 1 + below(g, 2);
-    uint64_t m0 = below(g, 5) == 0 ? nasty(g, 63) : below(g, 64);
+    uint64_t m0 = below(g, 5) == 0 ? nasty(g, 127) : below(g, 128);
     uint64_t k = n >= 1 && n <= 8 ? n : 1;
     size_t il = ZR400_INFORMATION_BYTES(k), pl = ZR400_PARITY_BYTES(k), cl = ZR400_CAPTURE_BYTES(k);
     switch (below(g, 12)) {

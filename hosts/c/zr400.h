@@ -81,11 +81,13 @@ zr_answer zr400_unmap(uint64_t c, uint64_t f, uint64_t n, const uint8_t *window,
 /* Whether FEC block t of N super frames may be asked for: if done, its 30,583 bytes begin at info + 30583 * t. */
 zr_answer zr400_information(uint64_t n, uint64_t t, const uint8_t *info, size_t info_length);
 
-/* Codes information and parity of N super frames into the capture, MBAS counting from m0; the count is the words written. */
+/* Codes information and parity of N super frames (1..8) into the capture; the count is the words written. The FEC blocks are
+ * numbered from m0 (0..127) on, after 127 from 0 again, and each carries half its number, rounded down, as its MBAS. */
 zr_answer zr400_code(uint64_t n, uint64_t m0, const uint8_t *info, size_t info_length, const uint8_t *parity,
                      size_t parity_length, uint8_t *capture, size_t capture_length);
 
-/* Reads a capture back, repairing one flipped bit in each word; the count is the words whose checks were not zero. */
+/* Reads a capture back, repairing one flipped bit in each word; the count is the words whose checks were not zero. An
+ * undamaged capture is refused by 6 for every other m0 than its own: at FEC block 0 or, where the halves are the same, at 1. */
 zr_answer zr400_read(uint64_t n, uint64_t m0, const uint8_t *capture, size_t capture_length, uint8_t *info,
                      size_t info_length, uint8_t *parity, size_t parity_length);
 

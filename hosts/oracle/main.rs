@@ -148,7 +148,8 @@ fn random_damage(g: &mut Generator, captured: &mut [u8], words: u64, m0: u64) ->
                 turn_word(captured, w as usize, bit as usize);
             }
         }
-        4 => m0 = (m0 % 64 + 1 + g.below(63)) % 64,
+        // m0 ^ 1 has the same half
+        4 => m0 = if g.below(2) == 0 { m0 ^ 1 } else { (m0 % 128 + 1 + g.below(127)) % 128 },
         _ => {}
     }
     println!("damage {}, read with m0 {}", kind, m0);
@@ -190,7 +191,7 @@ fn random_edit(g: &mut Generator, n: u64, blocks: u64, captured: &mut [u8]) {
 
 fn random_capture(g: &mut Generator) {
     let n = if g.below(5) == 0 { nasty(g, 8) } else { 1 + g.below(2) };
-    let m0 = if g.below(5) == 0 { nasty(g, 63) } else { g.below(64) };
+    let m0 = if g.below(5) == 0 { nasty(g, 127) } else { g.below(128) };
     let k = if n >= 1 && n <= 8 { n } else { 1 };
     let mut information_length = capture::information_length(k);
     let mut parity_length = capture::parity_length(k);

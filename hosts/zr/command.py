@@ -26,7 +26,7 @@ zr unpack FILE ENTRY OUT                 takes one body out again
 zr help                                  this text
 zr --version                             the version
 
-N is 1 to 8 super frames and M0, where the FEC blocks count from, 0 to 63. INFO has 152915 bytes for each
+N is 1 to 8 super frames and M0, the number of the first FEC block, 0 to 127. INFO has 152915 bytes for each
 super frame, PARITY 10240, and CAPTURE 175616 and 7680 more. For an edit BLOCK is 0 to 4760 N - 1, BITS has 33 bytes
 (257 bits, seven zero bits) and PARITY 2048. C is 0 to 10220, F odd, N even. Where a file's size tells N, in code, read, edit
 and unmap, N may be the word auto. An archive has 1 to 32 bodies of up to 4294967295 bytes each. KIND is information, parity or

@@ -42,7 +42,7 @@ pub fn part(n: u64, t: u64, information: &[u8]) -> (Answer, &[u8]) {
 
 /// Coding takes N, m0, information and parity, and fills the capture. The count is the number of words.
 pub fn code(n: u64, m0: u64, information: &[u8], parity: &[u8], capture: &mut [u8]) -> Answer {
-    if !n_is_stated(n) || m0 > 63 {
+    if !n_is_stated(n) || m0 >= fec::BLOCK_NUMBERS {
         return Answer::refused(1, 0);
     }
     if information.len() != information_length(n)
@@ -87,7 +87,7 @@ pub fn code(n: u64, m0: u64, information: &[u8], parity: &[u8], capture: &mut [u
 /// Each number of the table is looked for over the whole capture before the next one is, so the smallest
 /// number wins, and then the smallest place.
 pub fn read(n: u64, m0: u64, capture: &[u8], information: &mut [u8], parity: &mut [u8]) -> Answer {
-    if !n_is_stated(n) || m0 > 63 {
+    if !n_is_stated(n) || m0 >= fec::BLOCK_NUMBERS {
         return Answer::refused(1, 0);
     }
     if capture.len() != capture_length(n)

@@ -1,7 +1,7 @@
 //! One FEC block: information, CRC, MBAS, parity.
 //! Document 01, section "One FEC block, 261,086 bits"; document 001, section 9.2; document 002, "CRC-32 and MBAS".
 
-use crate::bits::bits_of_number;
+use crate::bits::{bits_of_number, number_of_bits};
 
 pub const INFORMATION_BITS: usize = 244_664;
 pub const CRC_START: usize = 244_664;
@@ -57,9 +57,15 @@ pub fn crc(bits: &[bool]) -> Vec<bool> {
     result
 }
 
-/// "block t of the capture carries (m0 + t) mod 64"
+/// 002, "Multi-Block Alignment Signal": "a 7-bit SC FEC Multi Block Alignment Signal (MBAS) which provides a 128 block
+/// sequence".
+const NUMBER_BITS: usize = 7;
+pub const BLOCK_NUMBERS: u64 = 128;
+
+/// "The six most significant bits of the 7-bit MBAS are transferred"; M-102: "block t has number (m0 + t) mod 128".
 pub fn mbas_of_block(m0: u64, t: u64) -> u64 {
-    (m0 + t) % 64
+    let number = bits_of_number((m0 + t) % BLOCK_NUMBERS, NUMBER_BITS);
+    number_of_bits(&number[0..MBAS_BITS])
 }
 
 /// The 261,086 bits of a block. `mbas` is the six-bit number, sent top bit first.

@@ -10,19 +10,19 @@ use lib.ListN.{length}
 use Rattle.bits.specs.Bits.{num, bitAt, Bytes}
 use Rattle.bits.proofs.Numbers.{num-zero}
 use Rattle.sizes.specs.Sizes.{blockBits}
-use Rattle.line.specs.Fec.{mbasAllowed}
+use Rattle.line.specs.Fec.{blockNumbers, mbasAllowed}
 use Rattle.line.proofs.CaptureLaws.{all-frames}
 use Rattle.edit_spec.specs.Edit.{clientSpareSet}
 use Rattle.demand_laws.specs.Demand2.{Input}
 use Rattle.demand_laws.specs.Demand3.{EditInput}
 
--- "N is 1..8. Information 152,915·N bytes, parity 10,240·N"; "the first number m0, 0..63"
-pub input-all : (N m0 : ℕ) (info par : List ℕ) → 1 ≤ N → N ≤ 8 → m0 ≤ 63 → length info ≡ 152915 * N → Bytes info → length par ≡ 10240 * N → Bytes par
+-- "N is 1..8. Information 152,915·N bytes, parity 10,240·N"; "m0 is 0..127" (M-102)
+pub input-all : (N m0 : ℕ) (info par : List ℕ) → 1 ≤ N → N ≤ 8 → m0 ≤ 127 → length info ≡ 152915 * N → Bytes info → length par ≡ 10240 * N → Bytes par
     → Input N m0 info par
 unfolding mbasAllowed
 input-all N m0 info par some few number info-long info-bytes parity-long parity-bytes = record {
   frames = all-frames N some few;
-  number = lt-ltb m0 64 (omega arith);
+  number = lt-ltb m0 blockNumbers (omega arith);
   info-long = info-long;
   info-bytes = info-bytes;
   parity-long = parity-long;

@@ -4,14 +4,14 @@ use Prim.Native.Nat.{ℕ}
 use mathlib.Core.Bool.{Bool, true, cond}
 use mathlib.Core.Path.{_≡_}
 use mathlib.Core.List.{List}
-use lib.Dec.{ltb}
+use lib.Dec.{ltb, eqb}
 use lib.ListN.{length}
 use Rattle.bits.specs.Bits.{Bytes}
 use Rattle.prelude.specs.Loops.{count}
 use Rattle.hamming.specs.Code.{flip}
 use Rattle.sizes.specs.Sizes.{wordBits, infoLength, parityLength, words}
 use Rattle.line.specs.Captures.{superAllowed}
-use Rattle.line.specs.Fec.{mbasAllowed}
+use Rattle.line.specs.Fec.{mbasAllowed, mbasOf}
 use Rattle.line_order.specs.Order.{laid, wordIn}
 use Rattle.answer.specs.Rows.{done}
 use Rattle.answer.specs.declared.Answer.{Answer}
@@ -57,3 +57,7 @@ Demand2 N m0 info par flips =
     (info₀ par₀ : List ℕ) → length info₀ ≡ infoLength N → length par₀ ≡ parityLength N
     → ReadsBack info par (howMany N flips) (readAnswer N m0 (flipped N flips (captureOf N m0 info par)) info₀ par₀)
     (readLeaves N m0 (flipped N flips (captureOf N m0 info par)) info₀ par₀)
+
+-- the first FEC block whose MBAS tells a capture counted from m0 from one counted from m1: block 0, and where both have one half there, block 1 (M-102)
+unfoldable pub apartAt : ℕ → ℕ → ℕ
+apartAt m0 m1 = cond (eqb (mbasOf m0 0) (mbasOf m1 0)) 1 0

@@ -7,12 +7,12 @@ use native.Mathlib.Omega.{arith}
 use borrow.Author.Tests.{ltb-true, ltb-false, lt-ltb, le-ltb}
 use lib.Dec.{ltb}
 use lib.ListN.{length}
-use Rattle.bits.specs.Bits.{digit, bitAt, pack, Bits, Bytes}
-use Rattle.bits.proofs.Numbers.{digit-lt}
+use Rattle.bits.specs.Bits.{num, digit, bitAt, pack, Bits, Bytes}
+use Rattle.bits.proofs.Numbers.{digit-lt, num-part}
 use Rattle.bits.proofs.Packing.{bitOf-lt, packs-ext, packs-bitOf}
 use Rattle.prelude.proofs.Common.{cond-bit}
 use Rattle.sizes.specs.Sizes.{infoBits, crcBits, mbasBits, parityBits, mbasFrom, parityFrom, fecBits, infoLength, parityLength}
-use Rattle.line.specs.Fec.{mbasOf, fields, infoBit, parityBit, blockCrc, fecBit}
+use Rattle.line.specs.Fec.{blockNumbers, mbasAllowed, blockNumber, mbasOf, fields, infoBit, parityBit, blockCrc, fecBit}
 use Rattle.line.specs.Frames.{infoOf, parityOf}
 
 -- ---- the four fields
@@ -69,8 +69,37 @@ module _ (P : ℕ → Type 0) (inInfo : (i : ℕ) → i < infoBits → P i) (inC
 
 -- an MBAS has six bits
 pub mbas-lt : (m0 t : ℕ) → mbasOf m0 t < 2 ^ mbasBits
-unfolding mbasOf
+unfolding mbasOf blockNumber
 mbas-lt m0 t = omega arith
+
+-- they are the upper six of the block's seven-bit number
+pub mbas-upper : (m0 t : ℕ) → mbasOf m0 t ≡ num mbasBits (digit 7 (blockNumber m0 t)) 0
+unfolding mbasOf blockNumber
+mbas-upper m0 t = omega (arith, num-part 7 mbasBits 0 ((m0 + t) % blockNumbers) (omega arith) (omega arith))
+
+-- it rises every second FEC block
+pub mbas-rises : (m0 t : ℕ) → mbasOf m0 (2 + t) ≡ (1 + mbasOf m0 t) % 2 ^ mbasBits
+unfolding mbasOf blockNumber
+mbas-rises m0 t = omega arith
+
+-- half of a rest is the rest of the half
+half-rest : (x : ℕ) → x % blockNumbers / 2 ≡ x / 2 % 2 ^ mbasBits
+half-rest x = omega arith
+
+-- the next number's half: one more where the number is odd
+next-half : (m : ℕ) → (m + 1) % blockNumbers / 2 ≡ (m / 2 + m % 2) % 2 ^ mbasBits
+next-half m =
+    let e : (m + 1) / 2 ≡ m / 2 + m % 2 = omega arith in
+    half-rest (m + 1) ∙ rw e
+
+half-tells : (a b : ℕ) → a / 2 ≡ b / 2 → (a / 2 + a % 2) % 2 ^ mbasBits ≡ (b / 2 + b % 2) % 2 ^ mbasBits → a ≡ b
+half-tells a b e f = omega arith
+
+-- two allowed first numbers that give FEC blocks 0 and 1 the same MBAS are the same
+pub mbas-tells : (m0 m1 : ℕ) → mbasAllowed m0 ≡ true → mbasAllowed m1 ≡ true → mbasOf m0 0 ≡ mbasOf m1 0 → mbasOf m0 1 ≡ mbasOf m1 1 → m0 ≡ m1
+unfolding mbasAllowed mbasOf blockNumber
+mbas-tells m0 m1 h k e f =
+    half-tells m0 m1 (omega (arith, ltb-true m0 blockNumbers h, ltb-true m1 blockNumbers k)) (sym (next-half m0) ∙ f ∙ next-half m1)
 
 pub info-bits : (info : List ℕ) (t : ℕ) → Bits (infoBit info t)
 unfolding infoBit

@@ -1,5 +1,5 @@
 -- Document 01, "One FEC block, 261,086 bits": information, CRC, MBAS, parity. Assumes nothing: these are definitions.
-use Prim.Native.Nat.{ℕ, _+_, _-_, _*_, _%_}
+use Prim.Native.Nat.{ℕ, _+_, _-_, _*_, _/_, _%_}
 use mathlib.Core.Bool.{Bool, cond}
 use mathlib.Core.List.{List}
 use lib.Dec.{ltb}
@@ -7,12 +7,19 @@ use Rattle.bits.specs.Bits.{digit, bitAt}
 use Rattle.crc.specs.Crc.{crcOf}
 use Rattle.sizes.specs.Sizes.{infoBits, crcBits, mbasBits, parityBits, mbasFrom, parityFrom}
 
--- MBAS: which first numbers m0 are allowed, and what FEC block t of the capture carries
+-- MBAS (M-102; 002, "Multi-Block Alignment Signal"; 001 section 9.2.1): FEC blocks have seven-bit numbers, and the upper six bits are sent.
+-- So many numbers there are; which first numbers m0 are allowed; the number of FEC block t of the capture, and what the block carries
+abbrev pub blockNumbers : ℕ
+blockNumbers = 128
+
 unfoldable pub mbasAllowed : ℕ → Bool
-mbasAllowed m0 = ltb m0 64
+mbasAllowed m0 = ltb m0 blockNumbers
+
+unfoldable pub blockNumber : ℕ → ℕ → ℕ
+blockNumber m0 t = (m0 + t) % blockNumbers
 
 unfoldable pub mbasOf : ℕ → ℕ → ℕ
-mbasOf m0 t = (m0 + t) % 64
+mbasOf m0 t = blockNumber m0 t / 2
 
 -- bit i of a block whose four fields have the bits info, crc, mbas and parity
 unfoldable pub fields : (ℕ → ℕ) → (ℕ → ℕ) → (ℕ → ℕ) → (ℕ → ℕ) → ℕ → ℕ

@@ -14,11 +14,14 @@ pub fn super_allowed(n: u64) -> bool
     1 <= n && n <= sizes::MOST_FRAMES as u64
 }
 
+// The numbers of FEC blocks have seven bits.
+const BLOCK_NUMBERS: u64 = 128;
+
 // Whether a caller may count the FEC blocks from m0 on.
 pub fn mbas_allowed(m0: u64) -> bool
     ensures { λ r. ⌜ r ≡ mbasAllowed m0 ⌝ }
 {
-    m0 < 64
+    m0 < BLOCK_NUMBERS
 }
 
 // Whether both are.
@@ -35,11 +38,11 @@ pub fn one_of(n: u64, each: u32, x: u64) -> bool
     super_allowed(n) && x < each as u64 * n
 }
 
-// The number that FEC block t carries.
+// The MBAS that FEC block t carries: the upper six bits of its number.
 pub fn mbas(m0: u64, t: u64) -> u8
     ensures { λ r. ⌜ r ≡ mbasOf m0 t ⌝ }
 {
-    ((m0 % 64 + t % 64) % 64) as u8
+    ((m0 % BLOCK_NUMBERS + t % BLOCK_NUMBERS) % BLOCK_NUMBERS / 2) as u8
 }
 
 // The row that does not wait.

@@ -1,5 +1,5 @@
-// Codes made inputs of 1, 2, 3 and 8 super frames and writes each answer with a digest of the capture; then calls that are refused, with digests
-// that show the capture unchanged.
+// Codes made inputs of 1, 2, 3 and 8 super frames, and of one with the edges of m0, and writes each answer with a digest of the capture; then calls
+// that are refused, with digests that show the capture unchanged.
 ghost use mathlib.Core.Path.{_≡_};
 ghost use lib.ListN.{length};
 ghost use Rattle.buffer_sizes.specs.Lengths.{largeBytes};
@@ -40,8 +40,7 @@ fn code(n: u64, m0: u64, info: usize, parity: usize, capture: usize) {
     code_from(n, m0, info, parity, capture, &room);
 }
 
-fn granted(n: u64) {
-    let m0 = test_input::first_number(n);
+fn counted_from(n: u64, m0: u64) {
     test_print::frames(n);
     test_print::number(b" m0 ", m0);
     code(
@@ -53,6 +52,19 @@ fn granted(n: u64) {
     );
 }
 
+fn granted(n: u64) {
+    counted_from(n, test_input::first_number(n));
+}
+
+// The first m0, those on both sides of 64, and the last two.
+fn edges() {
+    counted_from(1, 0);
+    counted_from(1, 63);
+    counted_from(1, 64);
+    counted_from(1, 126);
+    counted_from(1, 127);
+}
+
 fn refused(name: &[u8], n: u64, m0: u64, info: usize, parity: usize, capture: usize) {
     test_print::text(name);
     code(n, m0, info, parity, capture);
@@ -61,7 +73,7 @@ fn refused(name: &[u8], n: u64, m0: u64, info: usize, parity: usize, capture: us
 fn numbers() {
     refused(b"N 0", 0, 7, 152915, 10240, 183296);
     refused(b"N 9", 9, 7, 152915, 10240, 183296);
-    refused(b"m0 64", 1, 64, 152915, 10240, 183296);
+    refused(b"m0 128", 1, 128, 152915, 10240, 183296);
 }
 
 fn lengths() {
@@ -75,6 +87,7 @@ pub fn cases() {
     granted(2);
     granted(3);
     granted(8);
+    edges();
     numbers();
     lengths();
 }

@@ -145,8 +145,18 @@ fn both_flipped(n: u64, f: usize, p: usize, g: usize, q: usize) {
 fn as_coded(n: u64) {
     name(n, b" undamaged");
     once(n, 0, NONE);
-    name(n, b" m0 one more");
-    counted_from(n, 7 * (n % 9) + 1, 0, NONE, 0, NONE);
+}
+
+// Number 6: read with another number. One of the neighbours has the same half, so that only FEC block 1 tells.
+fn otherwise(n: u64, more: u64, what: &[u8]) {
+    name(n, what);
+    counted_from(n, (7 * (n % 9) + more % 128) % 128, 0, NONE, 0, NONE);
+}
+
+fn counted_otherwise(n: u64) {
+    otherwise(n, 1, b" m0 one more");
+    otherwise(n, 127, b" m0 one less");
+    otherwise(n, 64, b" m0 64 more");
 }
 
 fn all_in(n: u64, capture: &mut [u8]) {
@@ -282,6 +292,7 @@ fn readings(n: u64) {
     repaired_filler(n);
     parity_flipped(n);
     as_coded(n);
+    counted_otherwise(n);
 }
 
 // ---- numbers and lengths
@@ -304,7 +315,7 @@ fn refused(what: &[u8], n: u64, m0: u64, capture: usize, info: usize, parity: us
 fn numbers() {
     refused(b"N 0", 0, 7, 183296, 152915, 10240);
     refused(b"N 9", 9, 7, 183296, 152915, 10240);
-    refused(b"m0 64", 1, 64, 183296, 152915, 10240);
+    refused(b"m0 128", 1, 128, 183296, 152915, 10240);
 }
 
 fn lengths() {

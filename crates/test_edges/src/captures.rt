@@ -67,18 +67,18 @@ fn flip_all(g: Generator, capture: &mut [u8]) -> Generator {
     h
 }
 
-fn read_into(n: u64, m0: u64, capture: &[u8], info: &mut [u8], parity: &mut [u8]) {
-    test_print::outcome(b" damaged: ", capture::read(n, m0, capture, info, parity));
+fn read_into(what: &[u8], n: u64, m0: u64, capture: &[u8], info: &mut [u8], parity: &mut [u8]) {
+    test_print::outcome(what, capture::read(n, m0, capture, info, parity));
     test_print::inputs(test_data::digest(info), test_data::digest(parity));
 }
 
 // Into zeros.
-fn read(n: u64, m0: u64, capture: &[u8]) {
+fn read(what: &[u8], n: u64, m0: u64, capture: &[u8]) {
     let mut info = buffer_sizes::large_space();
     let mut parity = buffer_sizes::small_space();
     let a = buffer_sizes::information(n);
     let b = buffer_sizes::parity(n);
-    read_into(n, m0, capture, &mut info[0..a], &mut parity[0..b]);
+    read_into(what, n, m0, capture, &mut info[0..a], &mut parity[0..b]);
 }
 
 fn code_from(
@@ -106,7 +106,7 @@ fn code(n: u64, m0: u64, g: Generator, capture: &mut [u8]) -> Generator {
 fn edit_and_read(n: u64, m0: u64, g: Generator, capture: &mut [u8]) -> Generator {
     let h = edit(n, g, capture);
     let k = flip_all(h, capture);
-    read(n, m0, capture);
+    read(b" damaged: ", n, m0, capture);
     k
 }
 
@@ -126,12 +126,48 @@ fn sized(n: u64, seed: u64, m0: u64) {
     case(n, seed, m0, &mut capture[0..k]);
 }
 
-// The first and the last m0, and the one past it, which is refused; then those between, nine apart.
+// The first m0, those on both sides of 64, the last two, and the one past them, which is refused; and one between.
+fn all_edges(n: u64) {
+    let k = n % 9;
+    sized(k, 1000 + k, 0);
+    sized(k, 1100 + k, 63);
+    sized(k, 1200 + k, 64);
+    sized(1, 1300 + k, 17 * (k % 8));
+    sized(k, 1400 + k, 126);
+    sized(k, 1500 + k, 127);
+    sized(k, 1600 + k, 128);
+}
+
+fn otherwise(m0: u64, capture: &[u8]) {
+    test_print::number(b" counted from ", m0);
+    read(b": ", 1, m0, capture);
+}
+
+fn read_otherwise(seed: u64, m0: u64, capture: &mut [u8]) {
+    name(1, seed, m0);
+    code(1, m0, test_data::start(seed), capture);
+    otherwise((m0 % 128 + 127) % 128, capture);
+    otherwise((m0 % 128 + 1) % 128, capture);
+}
+
+// Read with the number before and the one after. One of them has the same half as m0, so that only FEC block 1 tells.
+fn neighbours(m0: u64) {
+    let mut capture = buffer_sizes::large_space();
+    let k = buffer_sizes::capture(1);
+    read_otherwise(1700 + m0 % 128, m0, &mut capture[0..k]);
+}
+
+fn all_neighbours() {
+    neighbours(0);
+    neighbours(63);
+    neighbours(64);
+    neighbours(126);
+    neighbours(127);
+}
+
 pub fn vectors() {
     for n in 1..9u64 {
-        sized(n, 1000 + n, 0);
-        sized(n, 1100 + n, 63);
-        sized(n, 1200 + n, 64);
-        sized(1, 1300 + n, 9 * (n % 8));
+        all_edges(n);
     }
+    all_neighbours();
 }

@@ -44,7 +44,7 @@ fn code_files(n: u64, m0: u64, info: &[u8], parity: &[u8], capture: &mut [u8]) {
 
 fn refused(answer: Answer) {
     said::refused(answer);
-    said::sets(answer, b"  N is 1 to 8 and M0 is 0 to 63\n");
+    said::sets(answer, b"  N is 1 to 8 and M0 is 0 to 127\n");
 }
 
 // zr read N M0 CAPTURE INFO PARITY

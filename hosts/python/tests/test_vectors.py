@@ -16,6 +16,10 @@ class Vectors(unittest.TestCase):
             capture = coded(n)[2]
             line = f"N {n} m0 {7 * n}: number 0 place 0 count {zr400.words(n)} digest {digest(capture)}"
             self.assertIn(line, lines)
+        information, parity, _ = coded(1)
+        for m0 in (0, 63, 64, 126, 127):
+            capture = zr400.code(1, m0, information, parity)
+            self.assertIn(f"N 1 m0 {m0}: number 0 place 0 count {zr400.words(1)} digest {digest(capture)}", lines)
 
     def test_coding_refused(self):
         lines = lines_of("test_captures")
@@ -24,7 +28,7 @@ class Vectors(unittest.TestCase):
         for label, n, m0, i, p, length in (
             ("N 0", 0, 7, information, parity, full),
             ("N 9", 9, 7, information, parity, full),
-            ("m0 64", 1, 64, information, parity, full),
+            ("m0 128", 1, 128, information, parity, full),
             ("information one byte short", 1, 7, information[:-1], parity, full),
             ("parity one byte long", 1, 7, information, parity + b"\0", full),
             ("capture one byte short", 1, 7, information, parity, full - 1),
@@ -59,9 +63,11 @@ class Vectors(unittest.TestCase):
             flip(received, w, 1)
             self.reading(f"N 1 two flips in word {w}", 1, 7, received, lines)
         self.reading("N 1 m0 one more", 1, 8, capture, lines)
+        self.reading("N 1 m0 one less", 1, 6, capture, lines)
+        self.reading("N 1 m0 64 more", 1, 71, capture, lines)
         self.reading("N 0", 0, 7, capture, lines)
         self.reading("N 9", 9, 7, capture, lines)
-        self.reading("m0 64", 1, 64, capture, lines)
+        self.reading("m0 128", 1, 128, capture, lines)
         self.reading("capture one byte short", 1, 7, capture[:-1], lines)
 
     def test_edits(self):

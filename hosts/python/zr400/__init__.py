@@ -2,7 +2,7 @@
 
     import zr400
 
-    capture = zr400.code(2, 7, information, parity)        # N = 2 super frames, MBAS counting from 7
+    capture = zr400.code(2, 7, information, parity)        # N = 2 super frames, FEC blocks numbered from 7 on
     reading = zr400.read(2, 7, capture)                    # .information .parity .repaired
     words = zr400.edit(2, 4711, bits, parity_of_the_block, capture)    # in place; the words that were written
 
@@ -291,7 +291,7 @@ def code(n: SupportsIndex, m0: SupportsIndex, information: Buffer, parity: Buffe
 def code(
     n: SupportsIndex, m0: SupportsIndex, information: Buffer, parity: Buffer, capture: Optional[Buffer] = None
 ) -> Buffer:
-    """Codes N super frames (1..8), the MBAS counting from m0 (0..63). Returns the capture."""
+    """Codes N super frames (1..8), whose FEC blocks are numbered from m0 (0..127) on. Returns the capture."""
     n, m0 = _whole(n=n, m0=m0)
     if capture is None:
         capture = bytearray(capture_length(n) if _is_size(n) else 0)
@@ -303,7 +303,7 @@ def code(
 def read(
     n: SupportsIndex, m0: SupportsIndex, capture: Buffer, information: Optional[Buffer] = None, parity: Optional[Buffer] = None
 ) -> Reading:
-    """Reads a capture back, repairing one flipped bit in each word. The capture itself is not changed."""
+    """Reads a capture back that was coded with m0, repairing one flipped bit in each word. The capture itself is not changed."""
     n, m0 = _whole(n=n, m0=m0)
     if information is None:
         information = bytearray(information_length(n) if _is_size(n) else 0)

@@ -88,7 +88,7 @@ pub fn coding_bit_by_bit() {
             assert_eq!(sent(t, 244_664 + i), crc[i]);
         }
         for i in 0..6 {
-            assert_eq!(sent(t, 244_696 + i), ((21 + t) % 64 >> (5 - i)) & 1 == 1);
+            assert_eq!(sent(t, 244_696 + i), ((21 + t) % 128 >> (6 - i)) & 1 == 1);
         }
         for i in 0..16_384 {
             assert_eq!(sent(t, 244_702 + i), parity[i]);
@@ -164,7 +164,10 @@ pub fn reading_refusals() {
     assert_eq!(read(&|d| everything(d, 5)), Answer::refused(5, 11_454));
     assert_eq!(read(&|d| everything(d, 4)), Answer::refused(4, 11_453));
     assert_eq!(read_whole(1, 8, &c.capture).0, Answer::refused(6, 0));
-    assert_eq!(read_whole(1, 64, &c.capture).0, Answer::refused(1, 0));
+    assert_eq!(read_whole(1, 6, &c.capture).0, Answer::refused(6, 1));
+    assert_eq!(read_whole(1, 71, &c.capture).0, Answer::refused(6, 0));
+    assert_eq!(read_whole(1, 127, &c.capture).0, Answer::refused(6, 0));
+    assert_eq!(read_whole(1, 128, &c.capture).0, Answer::refused(1, 0));
     assert_eq!(read_whole(2, 7, &c.capture).0, Answer::refused(2, 0));
     assert_eq!(read_whole(0, 7, &c.capture).0, Answer::refused(1, 0));
     assert_eq!(read_whole(9, 7, &c.capture).0, Answer::refused(1, 0));

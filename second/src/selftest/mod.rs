@@ -54,7 +54,10 @@ tests!(
     fec:
         crc_published_values,
         crc_is_zero_over_block_and_field,
-        mbas_counts_and_wraps;
+        mbas_of_the_printed_rows,
+        mbas_counts_and_wraps,
+        mbas_tells_every_m0,
+        mbas_stands_behind_the_crc;
     super_frame:
         scrambler_values;
     interleaver:

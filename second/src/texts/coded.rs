@@ -5,7 +5,7 @@ use crate::answer::Answer;
 use crate::capture;
 use crate::generator::{bytes_from_seed, digest, Generator};
 
-/// Information, then parity, from one generator with seed 100 + N; m0 = 7 · N; the coded capture.
+/// Information, then parity, from one generator with seed 100 + N; the coded capture.
 pub struct Coded {
     pub n: u64,
     pub m0: u64,
@@ -15,11 +15,15 @@ pub struct Coded {
     pub answer: Answer,
 }
 
+/// m0 = 7 · N.
 pub fn coded_capture(n: u64) -> Coded {
+    counted_capture(n, 7 * n)
+}
+
+fn counted_capture(n: u64, m0: u64) -> Coded {
     let mut generator = Generator::new(100 + n);
     let information = generator.bytes(capture::information_length(n));
     let parity = generator.bytes(capture::parity_length(n));
-    let m0 = 7 * n;
     let mut captured = bytes_from_seed(CAPTURE_SEED, capture::capture_length(n));
     let answer = capture::code(n, m0, &information, &parity, &mut captured);
     Coded {
@@ -34,8 +38,11 @@ pub fn coded_capture(n: u64) -> Coded {
 
 pub fn coded() -> String {
     let mut text = String::new();
-    for n in [1, 2, 3, 8] {
-        let c = coded_capture(n);
+    let made = [1, 2, 3, 8].map(|n| (n, 7 * n));
+    // The edges of m0: the first, those on both sides of 64, the last two.
+    let counted = [0, 63, 64, 126, 127].map(|m0| (1, m0));
+    for (n, m0) in made.into_iter().chain(counted) {
+        let c = counted_capture(n, m0);
         text += &format!(
             "N {} m0 {}: {} digest {}\n",
             c.n,
@@ -54,7 +61,7 @@ pub fn coded() -> String {
     let calls: [(&str, u64, u64, &[u8], &[u8], usize); 6] = [
         ("N 0", 0, 7, &c.information, &c.parity, full),
         ("N 9", 9, 7, &c.information, &c.parity, full),
-        ("m0 64", 1, 64, &c.information, &c.parity, full),
+        ("m0 128", 1, 128, &c.information, &c.parity, full),
         ("information one byte short", 1, 7, short_information, &c.parity, full),
         ("parity one byte long", 1, 7, &c.information, &long_parity, full),
         ("capture one byte short", 1, 7, &c.information, &c.parity, full - 1),

@@ -121,7 +121,10 @@ pub fn readings() -> String {
         say("last parity bit turned".to_string(), c.m0, &d);
 
         say("undamaged".to_string(), c.m0, &c.capture);
+        // One of the neighbours has the same half.
         say("m0 one more".to_string(), c.m0 + 1, &c.capture);
+        say("m0 one less".to_string(), c.m0 - 1, &c.capture);
+        say("m0 64 more".to_string(), c.m0 + 64, &c.capture);
     }
 
     // Refused for their numbers or lengths, all with the buffers of N = 1.
@@ -132,7 +135,7 @@ pub fn readings() -> String {
     let calls: [(&str, u64, u64, &[u8], usize, usize); 6] = [
         ("N 0", 0, 7, &c.capture, information, parity),
         ("N 9", 9, 7, &c.capture, information, parity),
-        ("m0 64", 1, 64, &c.capture, information, parity),
+        ("m0 128", 1, 128, &c.capture, information, parity),
         ("capture one byte short", 1, 7, short_capture, information, parity),
         ("information one byte long", 1, 7, &c.capture, information + 1, parity),
         ("parity one byte short", 1, 7, &c.capture, information, parity - 1),

@@ -10,7 +10,8 @@ use crate::interleaver;
 use crate::super_frame;
 use crate::symbols;
 
-/// The vectors that the documents publish: the CRC's check value, the scrambler's first 24 bits, 001 Tables 7 and 12.
+/// The vectors that the documents publish: the CRC's check value, the scrambler's first 24 bits, 001 Tables 7 and 12, and the
+/// rows of 002, "Multi-Block Alignment Signal": 0 to 7, then 125 and those after it.
 fn published_vectors() -> String {
     let check = fec::crc(&bits_of_bytes(b"123456789"));
     let mut text = format!("CRC of 123456789: {}\n", hex(number_of_bits(&check)));
@@ -28,6 +29,12 @@ fn published_vectors() -> String {
             text += &format!(" {}", level);
         }
         text += "\n";
+    }
+    for (first, rows) in [(0, 8), (125, 6)] {
+        for t in 0..rows {
+            let number = (first + t) % 128;
+            text += &format!("MBAS of block {}: {}\n", number, fec::mbas_of_block(first, t));
+        }
     }
     text
 }
@@ -57,6 +64,28 @@ fn vector(n: u64, seed: u64, m0: u64) -> String {
         let mut parity = vec![0u8; parity.len()];
         let answer = capture::read(n, m0, &captured, &mut information, &mut parity);
         text += &both_digests(&format!(" damaged: {}", shown(answer)), &information, &parity);
+    }
+    text
+}
+
+/// A capture of one super frame from one seed, read with the numbers before and after its m0, into zeros.
+fn vector_neighbours(seed: u64, m0: u64) -> String {
+    let mut generator = Generator::new(seed);
+    let information = generator.bytes(capture::information_length(1));
+    let parity = generator.bytes(capture::parity_length(1));
+    let mut captured = vec![0u8; capture::capture_length(1)];
+    let answer = capture::code(1, m0, &information, &parity, &mut captured);
+    let mut text = format!("N 1 seed {} m0 {}: {}", seed, m0, shown(answer));
+    text += &format!(" capture {}\n", digest(&captured));
+    for other in [(m0 + 127) % 128, (m0 + 1) % 128] {
+        let mut information = vec![0u8; information.len()];
+        let mut parity = vec![0u8; parity.len()];
+        let answer = capture::read(1, other, &captured, &mut information, &mut parity);
+        text += &both_digests(
+            &format!(" counted from {}: {}", other, shown(answer)),
+            &information,
+            &parity,
+        );
     }
     text
 }
@@ -96,14 +125,21 @@ fn vector_window(seed: u64) -> String {
     text
 }
 
-/// For each N from 1 to 8 the first and the last m0 and the one past it, and N = 1 with an m0 between; then windows.
+/// For each N from 1 to 8 the first m0, those on both sides of 64, the last two and the one past them, and N = 1 with an
+/// m0 between; m0 and its neighbours; then windows.
 pub fn vectors() -> String {
     let mut text = published_vectors();
     for n in 1..=8 {
         text += &vector(n, 1_000 + n, 0);
         text += &vector(n, 1_100 + n, 63);
         text += &vector(n, 1_200 + n, 64);
-        text += &vector(1, 1_300 + n, 9 * (n % 8));
+        text += &vector(1, 1_300 + n, 17 * (n % 8));
+        text += &vector(n, 1_400 + n, 126);
+        text += &vector(n, 1_500 + n, 127);
+        text += &vector(n, 1_600 + n, 128);
+    }
+    for m0 in [0, 63, 64, 126, 127] {
+        text += &vector_neighbours(1_700 + m0, m0);
     }
     for seed in 3_001..=3_040 {
         text += &vector_window(seed);
