@@ -1,7 +1,7 @@
 -- What follows from demand 2 of a capture as it was coded: reading it counts 0, and reading it with another first number is refused, so that no two
 -- first numbers give one capture. Assumes nothing.
 use Prim.Native.Nat.{ℕ, zero, suc, _*_, _≤_, _<_}
-use mathlib.Core.Bool.{Bool, true, false, cond, not}
+use mathlib.Core.Bool.{Bool, true, false, not}
 use mathlib.Core.Path.{_≡_, refl, sym, ap, _∙_}
 use mathlib.Core.List.{List}
 use native.Mathlib.Omega.{arith}
@@ -80,14 +80,16 @@ module _ (N m0 m1 : ℕ) (info par info₀ par₀ : List ℕ) (input : Input N m
       ))
 
   module _ (differ : m0 ≡ m1 → ⊥) where
-    other-by : (b : Bool) → eqb (mbasOf m0 0) (mbasOf m1 0) ≡ b → readAnswer N m1 (captureOf N m0 info par) info₀ par₀ ≡ refused wrongMbas (cond b 1 0)
+    other-by : (same : Bool) → eqb (mbasOf m0 0) (mbasOf m1 0) ≡ same → readAnswer N m1 (captureOf N m0 info par) info₀ par₀ ≡ refused wrongMbas (apartAt m0 m1)
+    unfolding apartAt
     other-by true e =
         let first : mbasOf m0 0 ≡ mbasOf m1 0 = eqb-true (mbasOf m0 0) (mbasOf m1 0) e in
-        refused-at 1 (omega (arith, blocks)) (λ q l. let z : q ≡ 0 = omega arith in rw z first) (λ second. differ (mbas-tells m0 m1 (input .number) other first second))
-    other-by false e = refused-at 0 (omega (arith, blocks)) (λ q l. absurd (omega arith)) (eqb-false (mbasOf m0 0) (mbasOf m1 0) e)
+        rw e
+        (refused-at 1 (omega (arith, blocks)) (λ q l. let z : q ≡ 0 = omega arith in rw z first)
+        (λ second. differ (mbas-tells m0 m1 (input .number) other first second)))
+    other-by false e = rw e (refused-at 0 (omega (arith, blocks)) (λ q l. absurd (omega arith)) (eqb-false (mbasOf m0 0) (mbasOf m1 0) e))
 
     pub read-other : readAnswer N m1 (captureOf N m0 info par) info₀ par₀ ≡ refused wrongMbas (apartAt m0 m1)
-    unfolding apartAt
     read-other = other-by (eqb (mbasOf m0 0) (mbasOf m1 0)) refl
 
 -- so two captures coded from one input with different first numbers differ, also with 2 k and 2 k + 1

@@ -40,7 +40,7 @@ fn code(n: u64, m0: u64, info: usize, parity: usize, capture: usize) {
     code_from(n, m0, info, parity, capture, &room);
 }
 
-fn counted_from(n: u64, m0: u64) {
+fn granted(n: u64, m0: u64) {
     test_print::frames(n);
     test_print::number(b" m0 ", m0);
     code(
@@ -50,19 +50,6 @@ fn counted_from(n: u64, m0: u64) {
         buffer_sizes::parity(n),
         buffer_sizes::capture(n),
     );
-}
-
-fn granted(n: u64) {
-    counted_from(n, test_input::first_number(n));
-}
-
-// The first m0, those on both sides of 64, and the last two.
-fn edges() {
-    counted_from(1, 0);
-    counted_from(1, 63);
-    counted_from(1, 64);
-    counted_from(1, 126);
-    counted_from(1, 127);
 }
 
 fn refused(name: &[u8], n: u64, m0: u64, info: usize, parity: usize, capture: usize) {
@@ -82,11 +69,20 @@ fn lengths() {
     refused(b"capture one byte short", 1, 7, 152915, 10240, 183295);
 }
 
+// The first m0, those on both sides of 64, and the last two.
+fn edges() {
+    granted(1, 0);
+    granted(1, 63);
+    granted(1, 64);
+    granted(1, 126);
+    granted(1, 127);
+}
+
 pub fn cases() {
-    granted(1);
-    granted(2);
-    granted(3);
-    granted(8);
+    granted(1, 7);
+    granted(2, 14);
+    granted(3, 21);
+    granted(8, 56);
     edges();
     numbers();
     lengths();

@@ -147,16 +147,15 @@ fn as_coded(n: u64) {
     once(n, 0, NONE);
 }
 
-// Number 6: read with another number. One of the neighbours has the same half, so that only FEC block 1 tells.
-fn otherwise(n: u64, more: u64, what: &[u8]) {
-    name(n, what);
-    counted_from(n, (7 * (n % 9) + more % 128) % 128, 0, NONE, 0, NONE);
-}
-
+// Number 6. One of the neighbours of m0 has the same half, so that only FEC block 1 tells.
 fn counted_otherwise(n: u64) {
-    otherwise(n, 1, b" m0 one more");
-    otherwise(n, 127, b" m0 one less");
-    otherwise(n, 64, b" m0 64 more");
+    let m0 = test_input::first_number(n);
+    name(n, b" m0 one more");
+    counted_from(n, m0 % 64 + 1, 0, NONE, 0, NONE);
+    name(n, b" m0 one less");
+    counted_from(n, (m0 % 64 + 127) % 128, 0, NONE, 0, NONE);
+    name(n, b" m0 64 more");
+    counted_from(n, m0 % 64 + 64, 0, NONE, 0, NONE);
 }
 
 fn all_in(n: u64, capture: &mut [u8]) {

@@ -110,11 +110,18 @@ fn edit_and_read(n: u64, m0: u64, g: Generator, capture: &mut [u8]) -> Generator
     k
 }
 
+// Read with the number before m0 and the one after. One of them has the same half, so that only FEC block 1 tells.
+fn read_otherwise(n: u64, m0: u64, capture: &[u8]) {
+    read(b" m0 one less: ", n, (m0 % 128 + 127) % 128, capture);
+    read(b" m0 one more: ", n, (m0 % 128 + 1) % 128, capture);
+}
+
 // Where coding is refused the capture stays as it is: zeros, which pass their checks. The second time the edit meets a flipped bit, and some words
 // are beyond repair.
 fn case(n: u64, seed: u64, m0: u64, capture: &mut [u8]) {
     name(n, seed, m0);
     let mut g = code(n, m0, test_data::start(seed), capture);
+    read_otherwise(n, m0, capture);
     for i in 0..2u32 {
         g = edit_and_read(n, m0, g, capture);
     }
@@ -138,36 +145,8 @@ fn all_edges(n: u64) {
     sized(k, 1600 + k, 128);
 }
 
-fn otherwise(m0: u64, capture: &[u8]) {
-    test_print::number(b" counted from ", m0);
-    read(b": ", 1, m0, capture);
-}
-
-fn read_otherwise(seed: u64, m0: u64, capture: &mut [u8]) {
-    name(1, seed, m0);
-    code(1, m0, test_data::start(seed), capture);
-    otherwise((m0 % 128 + 127) % 128, capture);
-    otherwise((m0 % 128 + 1) % 128, capture);
-}
-
-// Read with the number before and the one after. One of them has the same half as m0, so that only FEC block 1 tells.
-fn neighbours(m0: u64) {
-    let mut capture = buffer_sizes::large_space();
-    let k = buffer_sizes::capture(1);
-    read_otherwise(1700 + m0 % 128, m0, &mut capture[0..k]);
-}
-
-fn all_neighbours() {
-    neighbours(0);
-    neighbours(63);
-    neighbours(64);
-    neighbours(126);
-    neighbours(127);
-}
-
 pub fn vectors() {
     for n in 1..9u64 {
         all_edges(n);
     }
-    all_neighbours();
 }

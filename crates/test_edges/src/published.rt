@@ -1,4 +1,4 @@
-// The CRC's check value, the first 24 bits of the scrambler, 001 Tables 7 and 12 in their order, and the rows of 002, "Multi-Block Alignment Signal".
+// The CRC's check value, the first 24 bits of the scrambler, 001 Tables 7 and 12 in their order, and the table of 002, "Multi-Block Alignment Signal".
 
 fn check_value() {
     let t = crc::table();
@@ -61,17 +61,20 @@ fn table_12() {
     }
 }
 
-// Row t behind that of the block number first.
-fn mbas_row(first: u64, t: u64) {
-    test_print::number(b"MBAS of block ", (first % 128 + t % 128) % 128);
-    test_print::number(b": ", line::mbas(first, t) as u64);
-    test_print::end();
+fn mbas_of(number: u64) {
+    test_print::number(b" ", line::mbas(number, 0) as u64);
 }
 
-fn mbas_rows(first: u64, rows: u64) {
-    for t in 0..rows {
-        mbas_row(first, t);
+fn each_mbas() {
+    for number in 0..128u64 {
+        mbas_of(number);
     }
+}
+
+fn mbas() {
+    test_print::text(b"MBAS of blocks 0 to 127:");
+    each_mbas();
+    test_print::end();
 }
 
 pub fn vectors() {
@@ -79,6 +82,5 @@ pub fn vectors() {
     scrambler();
     table_7();
     table_12();
-    mbas_rows(0, 8);
-    mbas_rows(125, 6);
+    mbas();
 }

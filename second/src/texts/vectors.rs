@@ -11,7 +11,7 @@ use crate::super_frame;
 use crate::symbols;
 
 /// The vectors that the documents publish: the CRC's check value, the scrambler's first 24 bits, 001 Tables 7 and 12, and the
-/// rows of 002, "Multi-Block Alignment Signal": 0 to 7, then 125 and those after it.
+/// table of 002, "Multi-Block Alignment Signal", with the rows that it leaves out.
 fn published_vectors() -> String {
     let check = fec::crc(&bits_of_bytes(b"123456789"));
     let mut text = format!("CRC of 123456789: {}\n", hex(number_of_bits(&check)));
@@ -30,16 +30,15 @@ fn published_vectors() -> String {
         }
         text += "\n";
     }
-    for (first, rows) in [(0, 8), (125, 6)] {
-        for t in 0..rows {
-            let number = (first + t) % 128;
-            text += &format!("MBAS of block {}: {}\n", number, fec::mbas_of_block(first, t));
-        }
+    text += "MBAS of blocks 0 to 127:";
+    for number in 0..128 {
+        text += &format!(" {}", fec::mbas_of_block(number, 0));
     }
-    text
+    text + "\n"
 }
 
-/// A capture of n super frames from one seed: coded, then twice edited, damaged and read.
+/// A capture of n super frames from one seed: coded, read with the numbers before and after m0, then twice edited, damaged
+/// and read.
 /// One generator gives information and parity; then each time the block, the client block and its parity, and for each
 /// word whether one of its bits is turned, and which. The second time the edit meets damage, and words are beyond
 /// repair. Where coding is refused the capture is the one that stood there: zeros, which pass their checks.
@@ -51,6 +50,10 @@ fn vector(n: u64, seed: u64, m0: u64) -> String {
     let answer = capture::code(n, m0, &information, &parity, &mut captured);
     let mut text = format!("N {} seed {} m0 {}: {}", n, seed, m0, shown(answer));
     text += &format!(" capture {}\n", digest(&captured));
+    // One of the neighbours of m0 has the same half.
+    for (label, other) in [("one less", (m0 + 127) % 128), ("one more", (m0 + 1) % 128)] {
+        text += &vector_read(&format!(" m0 {}", label), n, other, &captured);
+    }
     for _ in 0..2 {
         text += &vector_edit(n, &mut generator, &mut captured);
         for w in 0..interleaver::words(n as usize) {
@@ -60,34 +63,17 @@ fn vector(n: u64, seed: u64, m0: u64) -> String {
                 flip(&mut captured, w, bit);
             }
         }
-        let mut information = vec![0u8; information.len()];
-        let mut parity = vec![0u8; parity.len()];
-        let answer = capture::read(n, m0, &captured, &mut information, &mut parity);
-        text += &both_digests(&format!(" damaged: {}", shown(answer)), &information, &parity);
+        text += &vector_read(" damaged", n, m0, &captured);
     }
     text
 }
 
-/// A capture of one super frame from one seed, read with the numbers before and after its m0, into zeros.
-fn vector_neighbours(seed: u64, m0: u64) -> String {
-    let mut generator = Generator::new(seed);
-    let information = generator.bytes(capture::information_length(1));
-    let parity = generator.bytes(capture::parity_length(1));
-    let mut captured = vec![0u8; capture::capture_length(1)];
-    let answer = capture::code(1, m0, &information, &parity, &mut captured);
-    let mut text = format!("N 1 seed {} m0 {}: {}", seed, m0, shown(answer));
-    text += &format!(" capture {}\n", digest(&captured));
-    for other in [(m0 + 127) % 128, (m0 + 1) % 128] {
-        let mut information = vec![0u8; information.len()];
-        let mut parity = vec![0u8; parity.len()];
-        let answer = capture::read(1, other, &captured, &mut information, &mut parity);
-        text += &both_digests(
-            &format!(" counted from {}: {}", other, shown(answer)),
-            &information,
-            &parity,
-        );
-    }
-    text
+/// Reads into zeros.
+fn vector_read(label: &str, n: u64, m0: u64, captured: &[u8]) -> String {
+    let mut information = vec![0u8; capture::information_length(n)];
+    let mut parity = vec![0u8; capture::parity_length(n)];
+    let answer = capture::read(n, m0, captured, &mut information, &mut parity);
+    both_digests(&format!("{}: {}", label, shown(answer)), &information, &parity)
 }
 
 /// An edit with a list that stands full of sevens.
@@ -126,7 +112,7 @@ fn vector_window(seed: u64) -> String {
 }
 
 /// For each N from 1 to 8 the first m0, those on both sides of 64, the last two and the one past them, and N = 1 with an
-/// m0 between; m0 and its neighbours; then windows.
+/// m0 between; then windows.
 pub fn vectors() -> String {
     let mut text = published_vectors();
     for n in 1..=8 {
@@ -137,9 +123,6 @@ pub fn vectors() -> String {
         text += &vector(n, 1_400 + n, 126);
         text += &vector(n, 1_500 + n, 127);
         text += &vector(n, 1_600 + n, 128);
-    }
-    for m0 in [0, 63, 64, 126, 127] {
-        text += &vector_neighbours(1_700 + m0, m0);
     }
     for seed in 3_001..=3_040 {
         text += &vector_window(seed);

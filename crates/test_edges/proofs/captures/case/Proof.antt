@@ -21,6 +21,9 @@ start-requires c κs = search needs
 code-requires : tie.Need-code-requires Inv-loop μ-loop
 code-requires c κs = search needs
 
+read-otherwise-requires : tie.Need-read-otherwise-requires Inv-loop μ-loop
+read-otherwise-requires c κs = search needs
+
 loop-holds : tie.Need-loop-holds Inv-loop μ-loop
 loop-holds c = search needs
 
@@ -45,4 +48,4 @@ returns c = search needs
 pub case-spec : {M : Type 1} → statement M
 case-spec =
     tie.close
-    (tie.spec Inv-loop μ-loop name-requires start-requires code-requires loop-holds edit-and-read-requires add-i loop-less loop-again same-length returns)
+    (tie.spec Inv-loop μ-loop name-requires start-requires code-requires read-otherwise-requires loop-holds edit-and-read-requires add-i loop-less loop-again same-length returns)

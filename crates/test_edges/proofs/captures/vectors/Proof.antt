@@ -25,13 +25,10 @@ loop-less c = search needs
 loop-again : tie.Need-loop-again Inv-loop μ-loop
 loop-again c = search needs
 
-all-neighbours-requires : tie.Need-all-neighbours-requires Inv-loop μ-loop
-all-neighbours-requires c κs = search needs
-
 returns : tie.Need-returns Inv-loop μ-loop
 returns c = search needs
 
 pub vectors-spec : {M : Type 1} → statement M
 vectors-spec =
     tie.close
-    (tie.spec Inv-loop μ-loop loop-holds all-edges-requires add-n loop-less loop-again all-neighbours-requires returns)
+    (tie.spec Inv-loop μ-loop loop-holds all-edges-requires add-n loop-less loop-again returns)
