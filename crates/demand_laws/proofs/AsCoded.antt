@@ -57,11 +57,12 @@ module _ (N m0 m1 : ℕ) (info par info₀ par₀ : List ℕ) (input : Input N m
   blocks : fecBlocks ≤ fecBlocks * N
   blocks = omega (arith, super-frames N (input .frames))
 
+  -- FEC block t carries the MBAS that m0 gives it, and that of m1 is expected
   told : (t : ℕ) → t < fecBlocks * N → mbasDiffers m1 asCoded t ≡ not (eqb (mbasOf m0 t) (mbasOf m1 t))
   unfolding mbasDiffers
   told t h = rw (mbas-read N m0 info par noFlips t h)
 
-  pub refused-at : (t : ℕ) → t < fecBlocks * N → ((q : ℕ) → q < t → mbasOf m0 q ≡ mbasOf m1 q) → (mbasOf m0 t ≡ mbasOf m1 t → ⊥)
+  refused-at : (t : ℕ) → t < fecBlocks * N → ((q : ℕ) → q < t → mbasOf m0 q ≡ mbasOf m1 q) → (mbasOf m0 t ≡ mbasOf m1 t → ⊥)
       → readAnswer N m1 (captureOf N m0 info par) info₀ par₀ ≡ refused wrongMbas t
   unfolding readAnswer readLateRows inTurn rowThen
   refused-at t here before apart =
@@ -92,7 +93,7 @@ module _ (N m0 m1 : ℕ) (info par info₀ par₀ : List ℕ) (input : Input N m
     pub read-other : readAnswer N m1 (captureOf N m0 info par) info₀ par₀ ≡ refused wrongMbas (apartAt m0 m1)
     read-other = other-by (eqb (mbasOf m0 0) (mbasOf m1 0)) refl
 
--- so two captures coded from one input with different first numbers differ, also with 2 k and 2 k + 1
+-- so two captures coded from one input with different first numbers differ, those of 2 * k and 2 * k + 1 too
 pub captures-differ : (N m0 m1 : ℕ) (info par : List ℕ) → Input N m0 info par → mbasAllowed m1 ≡ true → (m0 ≡ m1 → ⊥)
     → captureOf N m0 info par ≡ captureOf N m1 info par → ⊥
 captures-differ N m0 m1 info par input other differ same =

@@ -7,19 +7,25 @@ use Rattle.bits.specs.Bits.{digit, bitAt}
 use Rattle.crc.specs.Crc.{crcOf}
 use Rattle.sizes.specs.Sizes.{infoBits, crcBits, mbasBits, parityBits, mbasFrom, parityFrom}
 
--- MBAS (M-102; 002, "Multi-Block Alignment Signal"; 001 section 9.2.1): FEC blocks have seven-bit numbers, and the upper six bits are sent.
--- So many numbers there are; which first numbers m0 are allowed; the number of FEC block t of the capture, and what the block carries
+-- ---- the number of an FEC block, and its MBAS: M-102; 002, "Multi-Block Alignment Signal"; 001 section 9.2.1
+
+-- the numbers have seven bits
 abbrev pub blockNumbers : ℕ
 blockNumbers = 128
 
+-- which first numbers m0 are allowed
 unfoldable pub mbasAllowed : ℕ → Bool
 mbasAllowed m0 = ltb m0 blockNumbers
 
+-- the number of FEC block t of the capture
 unfoldable pub blockNumber : ℕ → ℕ → ℕ
 blockNumber m0 t = (m0 + t) % blockNumbers
 
+-- its MBAS: half of that number, rounded down, which is its upper six bits (`mbas-upper`)
 unfoldable pub mbasOf : ℕ → ℕ → ℕ
 mbasOf m0 t = blockNumber m0 t / 2
+
+-- ---- the block
 
 -- bit i of a block whose four fields have the bits info, crc, mbas and parity
 unfoldable pub fields : (ℕ → ℕ) → (ℕ → ℕ) → (ℕ → ℕ) → (ℕ → ℕ) → ℕ → ℕ
