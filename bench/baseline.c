@@ -556,7 +556,7 @@ static void code_slots(const struct word *e, size_t count, uint8_t *capture)
 }
 
 /* The upper six bits of the seven-bit number of FEC block t. */
-static uint64_t mbas_of(uint64_t m0, uint64_t t) { return (m0 + t & 127) >> 1; }
+static uint64_t mbas_of(uint64_t m0, uint64_t t) { return ((m0 + t) & 127) >> 1; }
 
 zr_answer zr400_code(uint64_t n, uint64_t m0, const uint8_t *info, size_t info_length, const uint8_t *parity,
                      size_t parity_length, uint8_t *capture, size_t capture_length)
