@@ -92,6 +92,7 @@ next-half m =
     let e : (m + 1) / 2 ≡ m / 2 + m % 2 = omega arith in
     half-rest (m + 1) ∙ rw e
 
+-- where two numbers have one half, and the next ones too, they are the same
 half-tells : (a b : ℕ) → a / 2 ≡ b / 2 → (a / 2 + a % 2) % 2 ^ mbasBits ≡ (b / 2 + b % 2) % 2 ^ mbasBits → a ≡ b
 half-tells a b e f = omega arith
 

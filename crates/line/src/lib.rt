@@ -4,7 +4,7 @@ ghost use mathlib.Core.Path.{_≡_};
 ghost use Prim.Native.Nat.{_*_, _/_, _<_};
 ghost use lib.Dec.{ltb};
 ghost use Rattle.line.specs.Captures.{superAllowed};
-ghost use Rattle.line.specs.Fec.{mbasAllowed, mbasOf};
+ghost use Rattle.line.specs.Fec.{mbasAllowed, blockNumber, mbasOf};
 ghost use Rattle.line.specs.Slots.{slotOf, delay, elementIn, holds};
 
 // Whether a capture may have n super frames.
@@ -38,11 +38,18 @@ pub fn one_of(n: u64, each: u32, x: u64) -> bool
     super_allowed(n) && x < each as u64 * n
 }
 
-// The MBAS that FEC block t carries: the upper six bits of its number.
+// The number of FEC block t.
+fn block_number(m0: u64, t: u64) -> u64
+    ensures { λ r. ⌜ r ≡ blockNumber m0 t ⌝ }
+{
+    (m0 % BLOCK_NUMBERS + t % BLOCK_NUMBERS) % BLOCK_NUMBERS
+}
+
+// The MBAS that it carries: the upper six bits.
 pub fn mbas(m0: u64, t: u64) -> u8
     ensures { λ r. ⌜ r ≡ mbasOf m0 t ⌝ }
 {
-    ((m0 % BLOCK_NUMBERS + t % BLOCK_NUMBERS) % BLOCK_NUMBERS / 2) as u8
+    (block_number(m0, t) / 2) as u8
 }
 
 // The row that does not wait.
