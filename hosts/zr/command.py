@@ -130,7 +130,7 @@ class Command:
         files.begin(self.outputs)
         answer = asked(start, [self.name, *self.numbers.values()], [*self.inputs, *self.outputs])
         if answer.startswith("refused"):
-            return refused(answer)
+            return refused(of_whole(answer, self.inputs))
         files.deliver(self.outputs)
         if self.name == "runs":
             say_data(answer)
@@ -234,6 +234,15 @@ def feed(stream: Input, to: int) -> None:
         stream.pass_on(stream.descriptor, to)
     except BrokenPipeError:
         pass  # the program has ended: how, is told where its answer is looked at
+
+
+def of_whole(answer: str, inputs: Sequence[Input]) -> str:
+    """What was copied only so far that it is seen to be too long has more bytes than the program was handed."""
+    for each in inputs:
+        if each.size is None:
+            name = f"({shown(each.name)}) has"
+            answer = answer.replace(f"{name} {files.LONGEST + 1} bytes", f"{name} more than {files.LONGEST} bytes")
+    return answer
 
 
 def refused(answer: str) -> int:

@@ -2,4 +2,5 @@
 pub mod Meets
 pub mod Table
 pub mod Turns
+pub mod Buffers
 pub mod Unique

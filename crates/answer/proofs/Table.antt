@@ -23,7 +23,7 @@ use Rattle.answer.proofs.Meets.{written-done, written-refused}
 -- ---- which row answers
 
 -- a number that applies is above what the rows rise from
-above : (a : ℕ) (rows : List Row) (j q : ℕ) → rising a rows ≡ true → Applies rows j q → a < j
+pub above : (a : ℕ) (rows : List Row) (j q : ℕ) → rising a rows ≡ true → Applies rows j q → a < j
 unfolding rising
 above a [] j q e x = absurd x
 above a (r ∷ rows) j q e (inl h) = omega (arith, ltb-true a (rowNumber r) (and-left (ltb a (rowNumber r)) (rising (rowNumber r) rows) e), h .number-is)

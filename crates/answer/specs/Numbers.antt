@@ -9,11 +9,11 @@ allDone = 0
 abbrev pub outsideSet : ℕ
 outsideSet = 1
 
--- a buffer's length is not the stated one
+-- a buffer's length is not the stated one; its place is the buffer
 abbrev pub wrongLength : ℕ
 wrongLength = 2
 
--- a spare bit is not zero
+-- a spare bit is not zero; its place is the buffer
 abbrev pub spareBit : ℕ
 spareBit = 3
 

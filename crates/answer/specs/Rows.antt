@@ -29,9 +29,9 @@ pub data Row : Type 0 where
 abbrev pub wrong : ℕ → ℕ → Bool
 wrong stated long = not (eqb long stated)
 
--- the place of numbers 2 and 3 where lent buffer i, counted from 1, is the first at fault. Document 01: place 0
+-- the place of numbers 2 and 3 where lent buffer i, counted from 1, is the first at fault. Document 02, M-103: its position
 unfoldable pub bufferPlace : ℕ → ℕ
-bufferPlace i = 0
+bufferPlace i = i
 
 -- whether one of the buffers from i on is at fault and has its place at p
 unfoldable pub faultAt : List Bool → ℕ → ℕ → Bool
@@ -64,6 +64,11 @@ answerOf [] c = done c
 answerOf (r ∷ rows) c = cond (ltb (firstOf r) (placesOf r)) (refused (rowNumber r) (firstOf r)) (answerOf rows c)
 
 -- ---- what the rule means, without the order of a list
+
+-- of lent buffers that are counted from i on, buffer p is the first at fault. Document 02, M-103
+pub data FirstFault : ℕ → List Bool → ℕ → Type 0 where
+  here : {i : ℕ} {bs : List Bool} → FirstFault i (true ∷ bs) i
+  later : {i p : ℕ} {bs : List Bool} → FirstFault (suc i) bs p → FirstFault i (false ∷ bs) p
 
 -- row r has number k and holds at place p
 pub record HoldsAt (r : Row) (k p : ℕ) : Type 0 where

@@ -58,11 +58,11 @@ pub fn refuse(number: u64, place: u64) -> Answer
     }
 }
 
-// The place of numbers 2 and 3 where lent buffer i, counted from 1, is the first at fault.
-pub fn buffer_place(i: u64) -> u64
-    ensures { λ r. ⌜ r ≡ bufferPlace i ⌝ }
+// The place of numbers 2 and 3, by the position from 1 of the first lent buffer that is at fault.
+pub fn buffer_place(position: u64) -> u64
+    ensures { λ r. ⌜ r ≡ bufferPlace position ⌝ }
 {
-    0
+    position
 }
 
 // One test of several in turn: where it holds the call is refused, else what comes next answers.

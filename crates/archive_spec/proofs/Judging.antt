@@ -15,12 +15,13 @@ use Rattle.prelude.proofs.Common.{same-test, or-left, or-right, or-next}
 use Rattle.prelude.proofs.Lists.{tabulate-ext}
 use Rattle.prelude.proofs.LoopLaws.{PassedOver, first-here, first-end, first-holds}
 use Rattle.answer.specs.Numbers.{allDone, outsideSet, wrongLength, notArchive, badEntry, misplaced}
-use Rattle.answer.specs.Rows.{Row, each, done, refused, wrong, bufferPlace, rowNumber, placesOf, holdsAt, firstOf, answerOf, rising}
+use Rattle.answer.specs.Rows.{Row, each, done, refused, wrong, bufferPlace, FirstFault, rowNumber, placesOf, holdsAt, firstOf, answerOf, rising}
 use Rattle.answer.specs.Demand1.{Exactly, Demand1}
 use Rattle.answer.specs.Outcomes.{Outcome}
 use Rattle.answer.specs.Steps.{inTurn, rowThen, faultsThen, NoFault, RowPassed, Passed}
 use Rattle.answer.specs.declared.Answer.{Answer}
 use Rattle.answer.proofs.Table.{exactly, granted, demand-1}
+use Rattle.answer.proofs.Buffers.{which-buffer}
 use Rattle.answer.proofs.Turns.{in-turn, by-turns, passed, granted-passed, early-refused, early-passed, turn-refused, turn-passed, right-length}
 use Rattle.answer.proofs.Meets.{meets-done}
 use Rattle.archive_spec.specs.File.{fixedBytes, fixed, headBytes, mostEntries, mostHeadBytes, numberAt, headOf, countIn, kindIn, countOutside}
@@ -51,6 +52,19 @@ pub open-demand-1 : (size : ℕ) (s kinds offsets lengths : List ℕ) {r : Answe
 unfolding openAnswer openLeaves openEarlyRows openLateRows rising rowNumber
 open-demand-1 size s kinds offsets lengths o =
     demand-1 (openRows size s (length kinds) (length offsets) (length lengths)) (countIn s) (tableIn s kinds offsets lengths) (kinds, (offsets, lengths)) refl o
+
+-- ---- number 2 names the first buffer whose length is wrong: of writing kinds, lengths and head, of reading the first bytes and the three lists
+
+pub write-names : (n : ℕ) (kinds lengths : List ℕ) (head : ℕ) → writeAnswer n kinds lengths head .number ≡ wrongLength
+    → FirstFault 1 (wrong n (length kinds) ∷ wrong n (length lengths) ∷ wrong (headBytes n) head ∷ []) (writeAnswer n kinds lengths head .place)
+unfolding rising rowNumber
+write-names n kinds lengths head = which-buffer (_ ∷ []) wrongLength _ [] (headBytes n) refl (write-exactly n kinds lengths head)
+
+pub open-names : (size : ℕ) (s : List ℕ) (k o l : ℕ) → openAnswer size s k o l .number ≡ wrongLength
+    → FirstFault 1 (wrong (min size mostHeadBytes) (length s) ∷ wrong mostEntries k ∷ wrong mostEntries o ∷ wrong mostEntries l ∷ [])
+    (openAnswer size s k o l .place)
+unfolding openEarlyRows openLateRows rising rowNumber
+open-names size s k o l = which-buffer [] wrongLength _ (openLateRows size s) (countIn s) refl (open-exactly size s k o l)
 
 -- ---- what tests that were passed say
 

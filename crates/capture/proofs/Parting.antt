@@ -2,7 +2,7 @@
 use Prim.Native.Nat.{ℕ, _+_, _-_, _*_, _≤_, _<_}
 use mathlib.Core.Bool.{true, _&&_}
 use mathlib.Core.Path.{_≡_, refl, sym, ap, _∙_}
-use mathlib.Core.List.{List, []}
+use mathlib.Core.List.{List, [], _∷_}
 use native.Mathlib.Nat.{add-sub-cancel-left}
 use native.Mathlib.Omega.{arith}
 use borrow.Author.Tests.{ltb-true, not-false}
@@ -10,12 +10,13 @@ use lib.Dec.{ltb}
 use lib.ListN.{length, take, drop}
 use Rattle.prelude.proofs.Common.{and-right}
 use Rattle.prelude.proofs.Lists.{part-long}
-use Rattle.answer.specs.Numbers.{allDone}
-use Rattle.answer.specs.Rows.{Row, done, rowNumber, rising}
+use Rattle.answer.specs.Numbers.{allDone, wrongLength}
+use Rattle.answer.specs.Rows.{Row, done, wrong, FirstFault, rowNumber, rising}
 use Rattle.answer.specs.Demand1.{Exactly}
 use Rattle.answer.specs.Steps.{NoFault, RowPassed, Passed}
 use Rattle.answer.specs.declared.Answer.{Answer}
 use Rattle.answer.proofs.Table.{exactly}
+use Rattle.answer.proofs.Buffers.{which-buffer}
 use Rattle.answer.proofs.Turns.{in-turn, passed, right-length}
 use Rattle.answer.proofs.Meets.{written-done, written-refused}
 use Rattle.sizes.specs.Sizes.{infoBytes, fecBlocks, infoLength, mostFrames}
@@ -45,6 +46,11 @@ module _ (N t : ℕ) (info : List ℕ) where
   pub part-exactly : Exactly rows 0 (partAnswer N t info)
   unfolding partAnswer
   part-exactly = exactly rows 0 (part-rise N t (length info))
+
+  -- number 2 names the information, the one buffer
+  pub part-names : partAnswer N t info .number ≡ wrongLength → FirstFault 1 (wrong (infoLength N) (length info) ∷ []) (partAnswer N t info .place)
+  unfolding partRows
+  part-names = which-buffer (_ ∷ []) wrongLength _ [] 0 (part-rise N t (length info)) part-exactly
 
   module _ {r : Answer} (e : r ≡ partAnswer N t info) where
     pub granted-part : r .number ≡ allDone → Part N t info

@@ -2,17 +2,18 @@
 use Prim.Native.Nat.{ℕ}
 use mathlib.Core.Bool.{true}
 use mathlib.Core.Path.{_≡_, refl, _∙_}
-use mathlib.Core.List.{List}
+use mathlib.Core.List.{List, [], _∷_}
 use lib.ListN.{length}
-use Rattle.answer.specs.Numbers.{allDone}
-use Rattle.answer.specs.Rows.{Row, done, rowNumber, answerOf, rising}
+use Rattle.answer.specs.Numbers.{allDone, wrongLength}
+use Rattle.answer.specs.Rows.{Row, done, wrong, FirstFault, rowNumber, answerOf, rising}
 use Rattle.answer.specs.Demand1.{Exactly, Demand1}
 use Rattle.answer.specs.Outcomes.{Outcome}
 use Rattle.answer.specs.Steps.{NoFault, RowPassed, Passed}
 use Rattle.answer.specs.declared.Answer.{Answer}
 use Rattle.answer.proofs.Table.{exactly, demand-1}
+use Rattle.answer.proofs.Buffers.{which-buffer}
 use Rattle.answer.proofs.Turns.{in-turn, passed, right-length}
-use Rattle.sizes.specs.Sizes.{words}
+use Rattle.sizes.specs.Sizes.{words, infoLength, parityLength, captureLength}
 use Rattle.line.specs.Fec.{mbasAllowed}
 use Rattle.line.proofs.CaptureLaws.{frames-in}
 use Rattle.code.specs.Code.{captureOf, codeRows, codeAnswer, codeLeaves}
@@ -30,6 +31,13 @@ module _ (N m0 : ℕ) (info par cap : List ℕ) where
   pub code-exactly : Exactly rows (words N) (codeAnswer N m0 info par cap)
   unfolding codeAnswer
   code-exactly = exactly rows (words N) (code-rise N m0 (length info) (length par) (length cap))
+
+  -- number 2 names the first of information, parity and capture whose length is wrong
+  pub code-names : codeAnswer N m0 info par cap .number ≡ wrongLength
+      → FirstFault 1 (wrong (infoLength N) (length info) ∷ wrong (parityLength N) (length par) ∷ wrong (captureLength N) (length cap) ∷ [])
+      (codeAnswer N m0 info par cap .place)
+  unfolding codeRows
+  code-names = which-buffer (_ ∷ []) wrongLength _ [] (words N) (code-rise N m0 (length info) (length par) (length cap)) code-exactly
 
   pub code-demand-1 : {r : Answer} {left : List ℕ} → Outcome (codeAnswer N m0 info par cap) (codeLeaves N m0 info par cap) r left
       → Demand1 rows (words N) (captureOf N m0 info par) cap r left

@@ -2,7 +2,7 @@
 use Prim.Native.Nat.{ℕ, _%_, _≤_, _<_}
 use mathlib.Core.Bool.{Bool, true, false, not, _&&_}
 use mathlib.Core.Path.{_≡_, refl, sym, ap, ap₂, _∙_}
-use mathlib.Core.List.{List}
+use mathlib.Core.List.{List, [], _∷_}
 use native.Mathlib.Omega.{arith}
 use borrow.Author.Tests.{ltb-true, lt-ltb, le-ltb, not-false}
 use lib.Dec.{ltb, eqb}
@@ -12,16 +12,17 @@ use Rattle.prelude.specs.Loops.{first, count}
 use Rattle.prelude.proofs.Common.{and-right}
 use Rattle.bits.proofs.Numbers.{num-back}
 use Rattle.bits.proofs.Packing.{bitOf-lt, num-bitOf}
-use Rattle.answer.specs.Numbers.{allDone, listedFails}
-use Rattle.answer.specs.Rows.{Row, done, refused, rowNumber, answerOf, rising}
+use Rattle.answer.specs.Numbers.{allDone, wrongLength, spareBit, listedFails}
+use Rattle.answer.specs.Rows.{Row, done, refused, wrong, FirstFault, rowNumber, answerOf, rising}
 use Rattle.answer.specs.Demand1.{Exactly, Demand1}
 use Rattle.answer.specs.Outcomes.{Outcome}
 use Rattle.answer.specs.Steps.{rowThen, inTurn, NoFault, RowPassed, Passed}
 use Rattle.answer.specs.declared.Answer.{Answer}
 use Rattle.answer.proofs.Table.{exactly, demand-1}
+use Rattle.answer.proofs.Buffers.{which-buffer}
 use Rattle.answer.proofs.Turns.{in-turn, passed, early-refused, early-passed, right-length, length-right}
 use Rattle.answer.proofs.Meets.{meets-done, meets-refused}
-use Rattle.sizes.specs.Sizes.{words, blocksOf}
+use Rattle.sizes.specs.Sizes.{blockBytes, parityBytes, listLength, words, blocksOf, captureLength}
 use Rattle.line.specs.Captures.{superAllowed}
 use Rattle.line.proofs.CaptureLaws.{frames-in, all-frames}
 use Rattle.edit_spec.specs.Edit.{listed, clientSpareSet, fails, editEarlyRows, editLateRows, editRows, editAnswer, edited, editLeaves}
@@ -58,6 +59,18 @@ module _ (N b : ℕ) (bits parity cap list : List ℕ) where
   pub edit-exactly : Exactly rows howMany (editAnswer N b bits parity cap list)
   unfolding editAnswer
   edit-exactly = exactly rows howMany edit-rise
+
+  -- number 2 names the first of client block, parity, capture and list whose length is wrong
+  pub edit-names : editAnswer N b bits parity cap list .number ≡ wrongLength
+      → FirstFault 1 (wrong blockBytes (length bits) ∷ wrong parityBytes (length parity) ∷ wrong (captureLength N) (length cap) ∷ wrong listLength (length list) ∷ [])
+      (editAnswer N b bits parity cap list .place)
+  unfolding editEarlyRows
+  edit-names = which-buffer (_ ∷ []) wrongLength _ _ howMany edit-rise edit-exactly
+
+  -- and number 3 the client block, which alone has spare bits
+  pub edit-names-spare : editAnswer N b bits parity cap list .number ≡ spareBit → FirstFault 1 (clientSpareSet bits ∷ []) (editAnswer N b bits parity cap list .place)
+  unfolding editEarlyRows
+  edit-names-spare = which-buffer (_ ∷ _ ∷ []) spareBit _ (editLateRows N b cap) howMany edit-rise edit-exactly
 
   pub edit-demand-1 : {r : Answer} {left : List ℕ × List ℕ} → Outcome (editAnswer N b bits parity cap list) (editLeaves N b bits parity cap list) r left
       → Demand1 rows howMany (edited N b bits parity cap list) (cap, list) r left

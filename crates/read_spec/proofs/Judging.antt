@@ -2,19 +2,20 @@
 use Prim.Native.Nat.{ℕ}
 use mathlib.Core.Bool.{true}
 use mathlib.Core.Path.{_≡_, refl, sym, ap, ap₂, _∙_}
-use mathlib.Core.List.{List}
+use mathlib.Core.List.{List, [], _∷_}
 use lib.ListN.{length}
 use Rattle.prelude.specs.Loops.{count}
-use Rattle.answer.specs.Numbers.{allDone}
-use Rattle.answer.specs.Rows.{Row, done, rowNumber, placesOf, holdsAt, firstOf, answerOf, rising}
+use Rattle.answer.specs.Numbers.{allDone, wrongLength}
+use Rattle.answer.specs.Rows.{Row, done, wrong, FirstFault, rowNumber, placesOf, holdsAt, firstOf, answerOf, rising}
 use Rattle.answer.specs.Demand1.{Exactly, Demand1}
 use Rattle.answer.specs.Outcomes.{Outcome, written}
 use Rattle.answer.specs.Steps.{NoFault, RowPassed, Passed}
 use Rattle.answer.specs.declared.Answer.{Answer}
 use Rattle.answer.proofs.Table.{exactly, demand-1}
+use Rattle.answer.proofs.Buffers.{which-buffer}
 use Rattle.answer.proofs.Turns.{in-turn, passed, early-refused, early-passed, right-length}
 use Rattle.answer.proofs.Meets.{meets-done, meets-refused}
-use Rattle.sizes.specs.Sizes.{words}
+use Rattle.sizes.specs.Sizes.{words, infoLength, parityLength, captureLength}
 use Rattle.line.specs.Fec.{mbasAllowed}
 use Rattle.line.specs.Frames.{infoOf, parityOf}
 use Rattle.line.specs.Words.{fecIn}
@@ -51,6 +52,13 @@ module _ (N m0 : ℕ) (cap info par : List ℕ) where
   pub read-exactly : Exactly rows seen (readAnswer N m0 cap info par)
   unfolding readAnswer
   read-exactly = exactly rows seen read-rise
+
+  -- number 2 names the first of capture, information and parity whose length is wrong
+  pub read-names : readAnswer N m0 cap info par .number ≡ wrongLength
+      → FirstFault 1 (wrong (captureLength N) (length cap) ∷ wrong (infoLength N) (length info) ∷ wrong (parityLength N) (length par) ∷ [])
+      (readAnswer N m0 cap info par .place)
+  unfolding readEarlyRows
+  read-names = which-buffer (_ ∷ []) wrongLength _ (readLateRows N m0 cap) seen read-rise read-exactly
 
   pub read-demand-1 : {r : Answer} {left : List ℕ × List ℕ} → Outcome (readAnswer N m0 cap info par) (readLeaves N m0 cap info par) r left
       → Demand1 rows seen (given N cap) (info, par) r left

@@ -8,13 +8,13 @@ use native.Mathlib.Omega.{arith}
 use borrow.Author.Tests.{lt-ltb, le-ltb}
 use lib.ListN.{length, take, drop}
 use Rattle.answer.specs.Numbers.{wrongLength}
-use Rattle.answer.specs.Rows.{refused}
+use Rattle.answer.specs.Rows.{refused, bufferPlace}
 use Rattle.answer.specs.Outcomes.{Outcome}
 use Rattle.answer.specs.declared.Answer.{Answer}
 use Rattle.code.specs.Code.{codeAnswer, codeLeaves}
 use Rattle.test_input.specs.Inputs.{firstNumber, infoRoom, parityRoom, tooShort, roomAnswer, roomLeaves}
 
-pub room-short : (n b : ℕ) (room cap : List ℕ) {r : Answer} → b ≡ infoRoom n + parityRoom n → length room < b → r ≡ refused wrongLength 0
+pub room-short : (n b : ℕ) (room cap : List ℕ) {r : Answer} → b ≡ infoRoom n + parityRoom n → length room < b → r ≡ refused wrongLength (bufferPlace 1)
     → Outcome (roomAnswer n room cap) (roomLeaves n room cap) r cap
 unfolding roomAnswer roomLeaves
 room-short n b room cap p h q =

@@ -7,7 +7,7 @@ use lib.ListN.{length, take, drop}
 use Rattle.prelude.specs.Lists.{tabulate}
 use Rattle.sizes.specs.Sizes.{mostFrames, infoLength, parityLength}
 use Rattle.answer.specs.Numbers.{wrongLength}
-use Rattle.answer.specs.Rows.{refused}
+use Rattle.answer.specs.Rows.{refused, bufferPlace}
 use Rattle.answer.specs.declared.Answer.{Answer}
 use Rattle.code.specs.Code.{codeAnswer, codeLeaves}
 use Rattle.buffer_sizes.specs.Lengths.{upTo}
@@ -43,7 +43,7 @@ roomParity n room = take (parityRoom n) (drop (infoRoom n) room)
 
 -- what coding it answers, and what the capture then holds
 unfoldable pub roomAnswer : ℕ → List ℕ → List ℕ → Answer
-roomAnswer n room cap = cond (tooShort n room) (refused wrongLength 0) (codeAnswer n (firstNumber n) (roomInfo n room) (roomParity n room) cap)
+roomAnswer n room cap = cond (tooShort n room) (refused wrongLength (bufferPlace 1)) (codeAnswer n (firstNumber n) (roomInfo n room) (roomParity n room) cap)
 
 unfoldable pub roomLeaves : ℕ → List ℕ → List ℕ → List ℕ
 roomLeaves n room cap = cond (tooShort n room) cap (codeLeaves n (firstNumber n) (roomInfo n room) (roomParity n room) cap)

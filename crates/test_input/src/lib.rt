@@ -27,14 +27,14 @@ pub fn fill_room(n: u64, room: &mut [u8])
     fill(100 + n % 9, room);
 }
 
-// Codes what fills a room; a room that is too short is refused.
+// Codes what fills a room; a room that is too short is refused, as the first buffer.
 pub fn code_room(n: u64, room: &[u8], capture: &mut [u8]) -> Answer
     ensures { λ r. ⌜ Outcome (roomAnswer n (now (room .entry)) (now (capture .entry))) (roomLeaves n (now (room .entry)) (now (capture .entry))) r (now (capture .exit)) ⌝ }
 {
     let a = buffer_sizes::information(n);
     let b = a + buffer_sizes::parity(n);
     if room.len() < b {
-        return answer::refuse(answer::WRONG_LENGTH, 0);
+        return answer::refuse(answer::WRONG_LENGTH, answer::buffer_place(1));
     }
     code::code(n, first_number(n), &room[0..a], &room[a..b], capture)
 }

@@ -26,24 +26,24 @@ pub fn code() {
     let a = i.bytes;
     let b = j.bytes;
     let k = buffer_sizes::capture(n);
-    code_files(n, m0, &info[0..a], &parity[0..b], &mut capture[0..k]);
+    let answer = code_files(n, m0, &info[0..a], &parity[0..b], &mut capture[0..k]);
+    if answer.number != 0 {
+        refused(answer, b",information,parity,capture");
+        said::length(answer, b"INFO", 4, i.size, buffer_sizes::information(n));
+        said::length(answer, b"PARITY", 5, j.size, buffer_sizes::parity(n));
+    }
 }
 
-fn code_files(n: u64, m0: u64, info: &[u8], parity: &[u8], capture: &mut [u8]) {
+fn code_files(n: u64, m0: u64, info: &[u8], parity: &[u8], capture: &mut [u8]) -> Answer {
     let answer = capture::code(n, m0, info, parity, capture);
-    if answer.number != 0 {
-        refused(answer);
-        said::length(answer, b"INFO", info.len(), buffer_sizes::information(n));
-        said::length(answer, b"PARITY", parity.len(), buffer_sizes::parity(n));
-        return;
-    }
-    if files::save(6, capture) {
+    if answer.number == 0 && files::save(6, capture) {
         said::done_words(answer.count, b"\n");
     }
+    answer
 }
 
-fn refused(answer: Answer) {
-    said::refused(answer);
+fn refused(answer: Answer, names: &[u8]) {
+    said::refused(answer, names);
     said::sets(answer, b"  N is 1 to 8 and M0 is 0 to 127\n");
 }
 
@@ -65,19 +65,19 @@ pub fn read() {
     let a = k.bytes;
     let i = buffer_sizes::information(n);
     let j = buffer_sizes::parity(n);
-    read_file(n, m0, &capture[0..a], &mut info[0..i], &mut parity[0..j]);
+    let answer = read_file(n, m0, &capture[0..a], &mut info[0..i], &mut parity[0..j]);
+    if answer.number != 0 {
+        refused(answer, b",capture,information,parity");
+        said::length(answer, b"CAPTURE", 4, k.size, buffer_sizes::capture(n));
+    }
 }
 
-fn read_file(n: u64, m0: u64, capture: &[u8], info: &mut [u8], parity: &mut [u8]) {
+fn read_file(n: u64, m0: u64, capture: &[u8], info: &mut [u8], parity: &mut [u8]) -> Answer {
     let answer = capture::read(n, m0, capture, info, parity);
-    if answer.number != 0 {
-        refused(answer);
-        said::length(answer, b"CAPTURE", capture.len(), buffer_sizes::capture(n));
-        return;
-    }
-    if files::save(5, info) && files::save(6, parity) {
+    if answer.number == 0 && files::save(5, info) && files::save(6, parity) {
         said::done_words(answer.count, b" repaired\n");
     }
+    answer
 }
 
 // zr edit N BLOCK BITS PARITY CAPTURE OUT
@@ -106,22 +106,23 @@ pub fn edit() {
     let a = i.bytes;
     let b = j.bytes;
     let c = k.bytes;
-    edit_files(n, block, &bits[0..a], &parity[0..b], &mut capture[0..c]);
+    let answer = edit_files(n, block, &bits[0..a], &parity[0..b], &mut capture[0..c]);
+    if answer.number != 0 {
+        said::refused(answer, b",client block,parity,capture,list");
+        said::sets(answer, b"  N is 1 to 8 and BLOCK is 0 to 4760 N - 1\n");
+        said::length(answer, b"BITS", 4, i.size, 33);
+        said::length(answer, b"PARITY", 5, j.size, 2048);
+        said::length(answer, b"CAPTURE", 6, k.size, buffer_sizes::capture(n));
+        said::spare(answer, b"BITS", 4);
+    }
 }
 
-fn edit_files(n: u64, block: u64, bits: &[u8], parity: &[u8], capture: &mut [u8]) {
+fn edit_files(n: u64, block: u64, bits: &[u8], parity: &[u8], capture: &mut [u8]) -> Answer {
     let mut list = [0u64; 145];
     let answer = capture::edit(n, block, bits, parity, capture, &mut list);
-    if answer.number != 0 {
-        said::refused(answer);
-        said::sets(answer, b"  N is 1 to 8 and BLOCK is 0 to 4760 N - 1\n");
-        said::length(answer, b"BITS", bits.len(), 33);
-        said::length(answer, b"PARITY", parity.len(), 2048);
-        said::length(answer, b"CAPTURE", capture.len(), buffer_sizes::capture(n));
-        return;
-    }
-    if files::save(7, capture) {
+    if answer.number == 0 && files::save(7, capture) {
         said::done_words(answer.count, b" rewritten:");
         said::words(&list, answer.count);
     }
+    answer
 }

@@ -22,40 +22,37 @@ pub fn convert(unmapping: bool) {
         return;
     }
     let i = loaded.bytes;
-    convert_file(unmapping, c, f, n, &from[0..i]);
+    convert_file(unmapping, c, f, n, &from[0..i], loaded.size);
 }
 
-fn convert_file(unmapping: bool, c: u64, f: u64, n: u64, from: &[u8]) {
+// `size` is that of the file, of which `from` is no more than is needed.
+fn convert_file(unmapping: bool, c: u64, f: u64, n: u64, from: &[u8], size: u64) {
     let mut to = buffer_sizes::large_space();
     if unmapping {
         let k = buffer_sizes::groups(c, f, n);
-        unmap(c, f, n, from, &mut to[0..k]);
+        unmap(c, f, n, from, size, &mut to[0..k]);
     } else {
         let k = buffer_sizes::window(n);
-        map(c, f, n, from, &mut to[0..k]);
+        map(c, f, n, from, size, &mut to[0..k]);
     }
 }
 
-fn map(c: u64, f: u64, n: u64, groups: &[u8], window: &mut [u8]) {
+fn map(c: u64, f: u64, n: u64, groups: &[u8], size: u64, window: &mut [u8]) {
     let answer = gmp_map::map(c, f, n, groups, window);
     if answer.number != 0 {
-        refused(answer);
-        said::length(
-            answer,
-            b"GROUPS",
-            groups.len(),
-            buffer_sizes::groups(c, f, n),
-        );
+        refused(answer, b",groups,window");
+        said::length(answer, b"GROUPS", 5, size, buffer_sizes::groups(c, f, n));
+        said::spare(answer, b"GROUPS", 5);
         return;
     }
     save(answer.count, window);
 }
 
-fn unmap(c: u64, f: u64, n: u64, window: &[u8], groups: &mut [u8]) {
+fn unmap(c: u64, f: u64, n: u64, window: &[u8], size: u64, groups: &mut [u8]) {
     let answer = gmp_map::unmap(c, f, n, window, groups);
     if answer.number != 0 {
-        refused(answer);
-        said::length(answer, b"WINDOW", window.len(), buffer_sizes::window(n));
+        refused(answer, b",window,groups");
+        said::length(answer, b"WINDOW", 5, size, buffer_sizes::window(n));
         return;
     }
     save(answer.count, groups);
@@ -67,8 +64,8 @@ fn save(count: u64, bytes: &[u8]) {
     }
 }
 
-fn refused(answer: Answer) {
-    said::refused(answer);
+fn refused(answer: Answer, names: &[u8]) {
+    said::refused(answer, names);
     said::sets(
         answer,
         b"  C is 0 to 10220, F odd and 1 to 10219, N even and at least 2, and the window ends at or before place 10220\n",
@@ -82,7 +79,7 @@ pub fn runs() {
     };
     if sizes::PLACES < c {
         let answer = answer::refuse(answer::OUTSIDE_SET, 0);
-        said::refused(answer);
+        said::refused(answer, b"");
         said::sets(answer, b"  C is 0 to 10220\n");
         return;
     }

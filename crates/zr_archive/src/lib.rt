@@ -74,7 +74,7 @@ fn lengths_of(n: usize) -> [u64; LISTED]
 fn make(entries: u64, kinds: &[u64], lengths: &[u64], head: &mut [u8]) {
     let answer = archive::write(entries, kinds, lengths, head);
     if answer.number != 0 {
-        said::refused(answer);
+        said::refused(answer, b",kinds,lengths,head");
         said::sets(
             answer,
             b"  an archive has 1 to 32 bodies, and a body's length and offset are at most 4294967295\n",
@@ -158,7 +158,7 @@ fn list_from(path: &[u8], fd: i32, seek: bool) {
     if !opened.fine {
         files::unread(path);
     } else if answer.number != 0 {
-        said::refused(answer);
+        said::refused(answer, b",first bytes,kinds,offsets,lengths");
     } else {
         archive_print::print(&kinds, &offsets, &lengths, answer.count);
     }

@@ -25,25 +25,50 @@ pub fn done_words(count: u64, then: &[u8]) {
     done(count, b" word", then);
 }
 
-// Refused, with the number, the place and what they mean.
-pub fn refused(answer: Answer) {
+// Refused, with the number, the place and what they mean. The names are those of the call's buffers in their order, each behind a comma.
+pub fn refused(answer: Answer, names: &[u8]) {
     let number = answer.number;
     say(b"refused ");
     say_number(number);
-    if answer::BEYOND_REPAIR <= number && number != answer::NOT_ARCHIVE {
+    if answer::OUTSIDE_SET < number && number != answer::NOT_ARCHIVE {
         place(number, answer.place);
+    }
+    if number == answer::WRONG_LENGTH || number == answer::SPARE_BIT {
+        buffer(answer.place, names);
     }
     say(b": ");
     meaning(number);
     say(b"\n");
 }
 
-// Document 01, "Numbers handed back", and document 02, M-100: what the place of a number counts. A bad count of entries has no place.
+// The name of a buffer.
+fn buffer(at: u64, names: &[u8]) {
+    say(b", the ");
+    let mut commas = 0;
+    for k in 0..names.len() {
+        commas = letter(names[k], at, commas);
+    }
+}
+
+// A letter of the name behind so many commas, and how many there are behind it. No call has eight buffers.
+fn letter(l: u8, at: u64, commas: u64) -> u64 {
+    if l == b',' {
+        return commas % 8 + 1;
+    }
+    if commas == at {
+        say(&[l]);
+    }
+    commas
+}
+
+// Document 01, "Numbers handed back", and document 02, M-100 and M-103: what the place of a number counts. A bad count of entries has no place.
 fn place(number: u64, at: u64) {
     if number == answer::BAD_ENTRY && at == 0 {
         return;
     }
-    if number == answer::WRONG_MBAS || number == answer::WRONG_CRC {
+    if number == answer::WRONG_LENGTH || number == answer::SPARE_BIT {
+        say(b" at buffer ");
+    } else if number == answer::WRONG_MBAS || number == answer::WRONG_CRC {
         say(b" at FEC block ");
     } else if number == answer::PAD_NOT_ZERO {
         say(b" at super frame ");
@@ -81,24 +106,35 @@ pub fn sets(answer: Answer, text: &[u8]) {
     }
 }
 
-// Under a refusal by 2: a file whose length is wrong.
-pub fn length(answer: Answer, name: &[u8], has: usize, wanted: usize) {
-    if answer.number != answer::WRONG_LENGTH || has == wanted {
+// Under a refusal by 2: a file whose length is wrong. It is argument i, and what that is called in the help.
+pub fn length(answer: Answer, name: &[u8], i: usize, has: u64, wanted: usize) {
+    if answer.number != answer::WRONG_LENGTH || has == wanted as u64 {
         return;
     }
+    file(name, i);
+    say(b" has ");
+    say_number(has);
+    say(b" bytes, and ");
+    say_number(wanted as u64);
+    say(b" are wanted\n");
+}
+
+// Under a refusal by 3: the file that it speaks of.
+pub fn spare(answer: Answer, name: &[u8], i: usize) {
+    if answer.number == answer::SPARE_BIT {
+        file(name, i);
+        say(b" has one that is set\n");
+    }
+}
+
+fn file(name: &[u8], i: usize) {
+    let mut path = io::buffer();
+    let k = os::arg(i, &mut path);
     say(b"  ");
     say(name);
-    if wanted < has {
-        say(b" has more than the ");
-        say_number(wanted as u64);
-        say(b" bytes that are wanted\n");
-    } else {
-        say(b" has ");
-        say_number(has as u64);
-        say(b" bytes, and ");
-        say_number(wanted as u64);
-        say(b" are wanted\n");
-    }
+    say(b" (");
+    say(&path[..k]);
+    say(b")");
 }
 
 // Something could not be done with a file or an argument.
