@@ -15,15 +15,19 @@ parity-requires c κs = search needs
 add-b : tie.Need-add-b
 add-b c = search needs
 
+buffer-place-requires : tie.Need-buffer-place-requires
+buffer-place-requires c κs = search needs
+
 refuse-requires : tie.Need-refuse-requires
 refuse-requires c κs = search needs
 
 returns : tie.Need-returns
 returns c =
-    let p = c .before .before in
+    let t = c .before .before in
+    let p = t .before in
     let a = p .before .before .before .before .args in
-    room-short (a .n) _ (now (a .room)) (now (a .capture)) (rw (p .before .information .ensures .is, p .parity .ensures .is) refl) (c .before .if1 .taken)
-    (c .refuse .ensures)
+    room-short (a .n) _ (now (a .room)) (now (a .capture)) (rw (p .before .information .ensures .is, p .parity .ensures .is) refl) (t .if1 .taken)
+    (rw (← (c .before .buffer-place .ensures)) (c .refuse .ensures))
 
 first-number-requires : tie.Need-first-number-requires
 first-number-requires c κs = search needs
@@ -68,6 +72,7 @@ code-room-spec =
     information-requires
     parity-requires
     add-b
+    buffer-place-requires
     refuse-requires
     returns
     first-number-requires
