@@ -27,3 +27,15 @@ impl Answer {
         }
     }
 }
+
+/// Document 02, M-103: the position, from 1, of the first lent buffer with a wrong length. The buffers stand in the order
+/// in which the documents name them, each with the length that it has and the stated one.
+pub fn wrong_length(lengths: &[(usize, usize)]) -> Option<u64> {
+    for i in 0..lengths.len() {
+        let (has, stated) = lengths[i];
+        if has != stated {
+            return Some(i as u64 + 1);
+        }
+    }
+    None
+}

@@ -1,7 +1,7 @@
 //! The capture file: one archive file for a capture and its inputs.
 //! Change request M-100; the numbers of document 01, section "Numbers handed back", and 10 to 12 behind them.
 
-use crate::answer::Answer;
+use crate::answer::{wrong_length, Answer};
 use std::io::Read;
 
 /// "It begins with the exact 16 bytes `400ZR CAPTURE 1` and a line feed"
@@ -73,8 +73,12 @@ pub fn write(count: u64, kinds: &[u64], lengths: &[u64], head: &mut [u8]) -> Ans
             return Answer::refused(1, 0);
         }
     }
-    if kinds.len() as u64 != count || lengths.len() as u64 != count || head.len() as u128 != head_length(count) {
-        return Answer::refused(2, 0);
+    if let Some(position) = wrong_length(&[
+        (kinds.len(), count as usize),
+        (lengths.len(), count as usize),
+        (head.len(), head_length(count) as usize),
+    ]) {
+        return Answer::refused(2, position);
     }
     head.copy_from_slice(&head_bytes(count, kinds, lengths));
     Answer::done(head.len() as u64)
@@ -115,12 +119,13 @@ fn whole_entries(first: &[u8], count: u64) -> Vec<Entry> {
 /// lists of 32 numbers as far as there are entries. The count handed back is the number of entries.
 /// As for captures each number is looked for in the whole table before the next one is.
 pub fn read(size: u64, first: &[u8], kinds: &mut [u64], offsets: &mut [u64], lengths: &mut [u64]) -> Answer {
-    if first.len() as u64 != size.min(LONGEST_HEAD as u64)
-        || kinds.len() != MOST_ENTRIES
-        || offsets.len() != MOST_ENTRIES
-        || lengths.len() != MOST_ENTRIES
-    {
-        return Answer::refused(2, 0);
+    if let Some(position) = wrong_length(&[
+        (first.len(), size.min(LONGEST_HEAD as u64) as usize),
+        (kinds.len(), MOST_ENTRIES),
+        (offsets.len(), MOST_ENTRIES),
+        (lengths.len(), MOST_ENTRIES),
+    ]) {
+        return Answer::refused(2, position);
     }
 
     // 10: fewer than 16 bytes, or others.

@@ -1,7 +1,7 @@
 //! Whole captures: the part of an FEC block, coding, reading and editing.
 //! Document 01, sections "Captures" and "Numbers handed back".
 
-use crate::answer::Answer;
+use crate::answer::{wrong_length, Answer};
 use crate::bits::{bits_of_bytes, bytes_of_bits, number_of_bits};
 use crate::fec;
 use crate::hamming::{Matrix, Repair};
@@ -33,8 +33,8 @@ pub fn part(n: u64, t: u64, information: &[u8]) -> (Answer, &[u8]) {
     if !n_is_stated(n) || t >= 5 * n {
         return (Answer::refused(1, 0), &[]);
     }
-    if information.len() != information_length(n) {
-        return (Answer::refused(2, 0), &[]);
+    if let Some(position) = wrong_length(&[(information.len(), information_length(n))]) {
+        return (Answer::refused(2, position), &[]);
     }
     let start = fec::INFORMATION_BYTES * t as usize;
     (Answer::done(0), &information[start..start + fec::INFORMATION_BYTES])
@@ -45,11 +45,12 @@ pub fn code(n: u64, m0: u64, information: &[u8], parity: &[u8], capture: &mut [u
     if !n_is_stated(n) || m0 >= fec::BLOCK_NUMBERS {
         return Answer::refused(1, 0);
     }
-    if information.len() != information_length(n)
-        || parity.len() != parity_length(n)
-        || capture.len() != capture_length(n)
-    {
-        return Answer::refused(2, 0);
+    if let Some(position) = wrong_length(&[
+        (information.len(), information_length(n)),
+        (parity.len(), parity_length(n)),
+        (capture.len(), capture_length(n)),
+    ]) {
+        return Answer::refused(2, position);
     }
     // All elements of the capture, super frame after super frame.
     let mut elements = Vec::new();
@@ -90,11 +91,12 @@ pub fn read(n: u64, m0: u64, capture: &[u8], information: &mut [u8], parity: &mu
     if !n_is_stated(n) || m0 >= fec::BLOCK_NUMBERS {
         return Answer::refused(1, 0);
     }
-    if capture.len() != capture_length(n)
-        || information.len() != information_length(n)
-        || parity.len() != parity_length(n)
-    {
-        return Answer::refused(2, 0);
+    if let Some(position) = wrong_length(&[
+        (capture.len(), capture_length(n)),
+        (information.len(), information_length(n)),
+        (parity.len(), parity_length(n)),
+    ]) {
+        return Answer::refused(2, position);
     }
 
     // 4: a word beyond repair. Filler words are words too.
@@ -206,17 +208,19 @@ pub fn edit(n: u64, block: u64, client: &[u8], parity: &[u8], capture: &mut [u8]
     if !n_is_stated(n) || block >= 4_760 * n {
         return Answer::refused(1, 0);
     }
-    if client.len() != 33
-        || parity.len() != fec::PARITY_BYTES
-        || capture.len() != capture_length(n)
-        || list.len() != LIST_LENGTH
-    {
-        return Answer::refused(2, 0);
+    if let Some(position) = wrong_length(&[
+        (client.len(), 33),
+        (parity.len(), fec::PARITY_BYTES),
+        (capture.len(), capture_length(n)),
+        (list.len(), LIST_LENGTH),
+    ]) {
+        return Answer::refused(2, position);
     }
+    // Only the first buffer has spare bits, so its position is the place. Document 02, M-103.
     let client_bits = bits_of_bytes(client);
     for spare in fec::CLIENT_BITS..client_bits.len() {
         if client_bits[spare] {
-            return Answer::refused(3, 0);
+            return Answer::refused(3, 1);
         }
     }
 

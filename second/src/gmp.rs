@@ -1,7 +1,7 @@
 //! GMP places and payload windows.
 //! Document 01, section "GMP places"; document 001, section 8.8.1 and Table 7.
 
-use crate::answer::Answer;
+use crate::answer::{wrong_length, Answer};
 use crate::bits::{bits_of_bytes, bytes_of_bits};
 
 /// P: the places of a four-frame envelope.
@@ -133,13 +133,17 @@ pub fn map(c: u64, f: u64, n: u64, groups: &[u8], window: &mut [u8]) -> Answer {
         return Answer::refused(1, 0);
     }
     let d = data_places(c, f, n);
-    if groups.len() as u64 != groups_length(d) || window.len() as u64 != window_length(n) {
-        return Answer::refused(2, 0);
+    if let Some(position) = wrong_length(&[
+        (groups.len(), groups_length(d) as usize),
+        (window.len(), window_length(n) as usize),
+    ]) {
+        return Answer::refused(2, position);
     }
+    // Only the first buffer has spare bits, so its position is the place. Document 02, M-103.
     let group_bits = bits_of_bytes(groups);
     for spare in d as usize * PLACE_BITS..group_bits.len() {
         if group_bits[spare] {
-            return Answer::refused(3, 0);
+            return Answer::refused(3, 1);
         }
     }
     let mut window_bits = Vec::new();
@@ -164,8 +168,11 @@ pub fn unmap(c: u64, f: u64, n: u64, window: &[u8], groups: &mut [u8]) -> Answer
         return Answer::refused(1, 0);
     }
     let d = data_places(c, f, n);
-    if window.len() as u64 != window_length(n) || groups.len() as u64 != groups_length(d) {
-        return Answer::refused(2, 0);
+    if let Some(position) = wrong_length(&[
+        (window.len(), window_length(n) as usize),
+        (groups.len(), groups_length(d) as usize),
+    ]) {
+        return Answer::refused(2, position);
     }
     let window_bits = bits_of_bytes(window);
     let mut group_bits = Vec::new();

@@ -20,12 +20,12 @@ fn three_bodies() -> Vec<u8> {
     file
 }
 
-/// Writes into a head of bytes 90. A refused call leaves them, and its place and count are 0.
+/// Writes into a head of bytes 90. A refused call leaves them, and its count is 0. Only 2 has a place.
 fn write(count: u64, kinds: &[u64], lengths: &[u64], head: usize) -> (Answer, Vec<u8>) {
     let before = vec![90u8; head];
     let mut head = before.clone();
     let answer = archive::write(count, kinds, lengths, &mut head);
-    assert_eq!(answer.place, 0);
+    assert_eq!(answer.place != 0, answer.number == 2);
     if answer.number != 0 {
         assert_eq!((answer.count, &head), (0, &before));
     }
@@ -82,7 +82,8 @@ pub fn archive_too_large_to_hold() {
 
 pub fn archive_write_refusals() {
     let most = TWO_TO_32 - 1;
-    let refused = |number: u64| Answer::refused(number, 0);
+    let outside = Answer::refused(1, 0);
+    let wrong_length = |position: u64| Answer::refused(2, position);
     let file = three_bodies();
     assert_eq!(
         write(3, &[1, 2, 3], &[5, 0, 7], 45),
@@ -90,29 +91,29 @@ pub fn archive_write_refusals() {
     );
     // 1: the count.
     for count in [0, 33, 256, 257, 65_537, TWO_TO_32 + 1, u64::MAX] {
-        assert_eq!(write(count, &[1], &[5], 27).0, refused(1));
+        assert_eq!(write(count, &[1], &[5], 27).0, outside);
     }
     // 1: a kind, a length, an offset. The end alone may lie beyond its four bytes.
     for kind in [0, 4, 257, u64::MAX] {
-        assert_eq!(write(2, &[1, kind], &[5, 5], 36).0, refused(1));
+        assert_eq!(write(2, &[1, kind], &[5, 5], 36).0, outside);
     }
     for length in [TWO_TO_32, TWO_TO_32 + 5, u64::MAX] {
-        assert_eq!(write(2, &[1, 2], &[5, length], 36).0, refused(1));
-        assert_eq!(write(2, &[1, 2], &[length, 5], 36).0, refused(1));
+        assert_eq!(write(2, &[1, 2], &[5, length], 36).0, outside);
+        assert_eq!(write(2, &[1, 2], &[length, 5], 36).0, outside);
     }
-    assert_eq!(write(2, &[1, 2], &[most, 0], 36).0, refused(1));
-    assert_eq!(write(2, &[1, 2], &[most - 35, 0], 36).0, refused(1));
+    assert_eq!(write(2, &[1, 2], &[most, 0], 36).0, outside);
+    assert_eq!(write(2, &[1, 2], &[most - 35, 0], 36).0, outside);
     assert_eq!(write(2, &[1, 2], &[most - 36, most], 36).0, Answer::done(36));
     // 2: a list or the head.
-    assert_eq!(write(2, &[1], &[5, 5], 36).0, refused(2));
-    assert_eq!(write(2, &[1, 2], &[5, 5, 5], 36).0, refused(2));
-    assert_eq!(write(2, &[1, 2], &[5, 5], 35).0, refused(2));
-    assert_eq!(write(2, &[1, 2], &[5, 5], 37).0, refused(2));
+    assert_eq!(write(2, &[1], &[5, 5], 36).0, wrong_length(1));
+    assert_eq!(write(2, &[1, 2], &[5, 5, 5], 36).0, wrong_length(2));
+    assert_eq!(write(2, &[1, 2], &[5, 5], 35).0, wrong_length(3));
+    assert_eq!(write(2, &[1, 2], &[5, 5], 37).0, wrong_length(3));
     // 1 comes before 2, but only for an entry that was handed in.
-    assert_eq!(write(2, &[9], &[5, 5], 0).0, refused(1));
-    assert_eq!(write(2, &[9], &[], 0).0, refused(2));
-    assert_eq!(write(2, &[1, 9], &[5], 36).0, refused(2));
-    assert_eq!(write(2, &[1, 2, 9], &[5, 5, u64::MAX], 36).0, refused(2));
+    assert_eq!(write(2, &[9], &[5, 5], 0).0, outside);
+    assert_eq!(write(2, &[9], &[], 0).0, wrong_length(1));
+    assert_eq!(write(2, &[1, 9], &[5], 36).0, wrong_length(2));
+    assert_eq!(write(2, &[1, 2, 9], &[5, 5, u64::MAX], 36).0, wrong_length(1));
 }
 
 /// Each number that reading can give, and what wins where several apply.
@@ -192,15 +193,15 @@ pub fn archive_read_lengths() {
         let few = file[1..].to_vec();
         let many = first_bytes(size + 1, &file);
         for first in [few, many] {
-            assert_eq!(read(size, &first).0, Answer::refused(2, 0));
+            assert_eq!(read(size, &first).0, Answer::refused(2, 1));
         }
-        for (k, o, l) in [(31, 32, 32), (32, 33, 32), (32, 32, 0)] {
+        for (k, o, l, position) in [(31, 32, 32, 2), (32, 33, 32, 3), (32, 32, 0, 4)] {
             let mut lists = [vec![7; k], vec![7; o], vec![7; l]];
             let before = lists.clone();
             let [kinds, offsets, lengths] = &mut lists;
             assert_eq!(
                 archive::read(size, &file, kinds, offsets, lengths),
-                Answer::refused(2, 0)
+                Answer::refused(2, position)
             );
             assert_eq!(lists, before);
         }
@@ -208,8 +209,8 @@ pub fn archive_read_lengths() {
     // 306 bytes of a longer file, neither fewer nor all.
     let long = first_bytes(306, &three_bodies());
     assert_eq!(read(400, &long).0, Answer::refused(12, 3));
-    assert_eq!(read(400, &long[0..305]).0, Answer::refused(2, 0));
-    assert_eq!(read(400, &[&long[..], &[0; 94]].concat()).0, Answer::refused(2, 0));
+    assert_eq!(read(400, &long[0..305]).0, Answer::refused(2, 1));
+    assert_eq!(read(400, &[&long[..], &[0; 94]].concat()).0, Answer::refused(2, 1));
 }
 
 /// A length: none, short, any that four bytes hold, or close to the most that they hold.

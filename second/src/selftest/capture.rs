@@ -24,8 +24,8 @@ pub fn information_parts() {
     for (n, t) in [(0, 0), (9, 0), (2, 10), (2, u64::MAX), (u64::MAX, 0)] {
         assert_eq!(capture::part(n, t, &information), (Answer::refused(1, 0), nothing));
     }
-    assert_eq!(capture::part(1, 0, &information), (Answer::refused(2, 0), nothing));
-    assert_eq!(capture::part(2, 0, &information[1..]), (Answer::refused(2, 0), nothing));
+    assert_eq!(capture::part(1, 0, &information), (Answer::refused(2, 1), nothing));
+    assert_eq!(capture::part(2, 0, &information[1..]), (Answer::refused(2, 1), nothing));
 }
 
 pub fn read_whole(n: u64, m0: u64, captured: &[u8]) -> (Answer, Vec<u8>, Vec<u8>) {
@@ -168,7 +168,7 @@ pub fn reading_refusals() {
     assert_eq!(read_whole(1, 71, &c.capture).0, Answer::refused(6, 0));
     assert_eq!(read_whole(1, 127, &c.capture).0, Answer::refused(6, 0));
     assert_eq!(read_whole(1, 128, &c.capture).0, Answer::refused(1, 0));
-    assert_eq!(read_whole(2, 7, &c.capture).0, Answer::refused(2, 0));
+    assert_eq!(read_whole(2, 7, &c.capture).0, Answer::refused(2, 1));
     assert_eq!(read_whole(0, 7, &c.capture).0, Answer::refused(1, 0));
     assert_eq!(read_whole(9, 7, &c.capture).0, Answer::refused(1, 0));
 }

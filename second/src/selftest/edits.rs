@@ -140,23 +140,23 @@ pub fn edit_refusals() {
     assert_eq!(try_edit(1, 4_760, &[], &[], &[], 0), Answer::refused(1, 0));
     assert_eq!(
         try_edit(1, 6, &client[1..], &parity, &c.capture, 145),
-        Answer::refused(2, 0)
+        Answer::refused(2, 1)
     );
     assert_eq!(
         try_edit(1, 6, &client, &parity[1..], &c.capture, 145),
-        Answer::refused(2, 0)
+        Answer::refused(2, 2)
     );
     assert_eq!(
         try_edit(1, 6, &client, &parity, &c.capture[1..], 145),
-        Answer::refused(2, 0)
+        Answer::refused(2, 3)
     );
-    assert_eq!(try_edit(1, 6, &client, &parity, &c.capture, 144), Answer::refused(2, 0));
-    assert_eq!(try_edit(1, 6, &client, &parity, &c.capture, 146), Answer::refused(2, 0));
+    assert_eq!(try_edit(1, 6, &client, &parity, &c.capture, 144), Answer::refused(2, 4));
+    assert_eq!(try_edit(1, 6, &client, &parity, &c.capture, 146), Answer::refused(2, 4));
     for spare in 0..7 {
         let mut wrong = client.clone();
         wrong[32] |= 1 << spare;
-        assert_eq!(try_edit(1, 6, &wrong, &parity, &c.capture, 145), Answer::refused(3, 0));
-        assert_eq!(try_edit(1, 6, &wrong, &parity, &c.capture, 144), Answer::refused(2, 0));
+        assert_eq!(try_edit(1, 6, &wrong, &parity, &c.capture, 145), Answer::refused(3, 1));
+        assert_eq!(try_edit(1, 6, &wrong, &parity, &c.capture, 144), Answer::refused(2, 4));
     }
     // 9 at each listed word.
     let listed = capture::listed_words(6);

@@ -3,6 +3,7 @@
 
 mod archives;
 mod basics;
+mod buffers;
 mod capture;
 mod edits;
 mod fec;
@@ -94,6 +95,13 @@ tests!(
         archive_damaged_heads,
         archive_offsets_do_not_wrap,
         archive_texts;
+    buffers:
+        buffers_of_coding_and_reading,
+        buffers_of_edits,
+        buffers_of_parts,
+        buffers_of_windows,
+        buffers_of_archive_files,
+        buffer_lines;
     texts:
         refused_lines_keep_their_buffers;
 );

@@ -3,6 +3,7 @@
 //! Here stands what several of them share.
 
 mod archives;
+mod buffers;
 mod capture_edges;
 mod coded;
 mod damage;
@@ -17,6 +18,7 @@ mod words;
 mod zr;
 
 pub use archives::{archive_reads, archive_writes};
+pub use buffers::buffers;
 pub use capture_edges::capture_edges;
 pub use coded::{coded, coded_capture, Coded};
 pub use damage::{flip, put_nonzero, turn, turn_in_block};
@@ -32,7 +34,7 @@ pub use zr::zr;
 
 use crate::answer::Answer;
 use crate::bits::number_of_bits;
-use crate::generator::{digest, hex};
+use crate::generator::{digest, hex, Generator};
 use crate::gmp::Kind;
 
 /// The seven counts of document 001, Table 7, in the table's order.
@@ -47,6 +49,16 @@ const GROUPS_SEED: u64 = 995;
 
 fn shown(answer: Answer) -> String {
     format!("number {} place {} count {}", answer.number, answer.place, answer.count)
+}
+
+/// A list of numbers before a call: whole 64-bit outputs of the generator.
+fn list_before(length: usize) -> Vec<u64> {
+    let mut generator = Generator::new(LIST_SEED);
+    let mut list = Vec::new();
+    for _ in 0..length {
+        list.push(generator.number());
+    }
+    list
 }
 
 /// Sixteen bytes as 32 hexadecimal digits: two 64-bit numbers one after the other.
