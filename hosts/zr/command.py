@@ -130,7 +130,7 @@ class Command:
         files.begin(self.outputs)
         answer = asked(start, [self.name, *self.numbers.values()], [*self.inputs, *self.outputs])
         if answer.startswith("refused"):
-            return refused(of_whole(answer, self.inputs))
+            return refused(answer)
         files.deliver(self.outputs)
         if self.name == "runs":
             say_data(answer)
@@ -220,7 +220,7 @@ def asked(start: List[str], words: List[str], handed: Sequence[Union[Input, Outp
     except BaseException:
         process.kill()
         raise
-    answer = named_in(said, names)
+    answer = named_in(sized_in(said, handed), names)
     if process.returncode or not re.match(r"done|refused|failed|Cm |1 ", answer):
         raise Failed(f"the program zr ended by {ending(process.returncode)}; nothing was written")
     if answer.startswith("failed"):
@@ -236,18 +236,17 @@ def feed(stream: Input, to: int) -> None:
         pass  # the program has ended: how, is told where its answer is looked at
 
 
-def of_whole(answer: str, inputs: Sequence[Input]) -> str:
-    """What was copied only so far that it is seen to be too long has more bytes than the program was handed."""
-    for each in inputs:
-        if each.size is None:
-            name = f"({shown(each.name)}) has"
-            answer = answer.replace(f"{name} {files.LONGEST + 1} bytes", f"{name} more than {files.LONGEST} bytes")
-    return answer
-
-
 def refused(answer: str) -> int:
     say(answer)
     return REFUSED
+
+
+def sized_in(said: bytes, handed: Sequence[Union[Input, Output]]) -> bytes:
+    """What the program said, with the sizes of files of which it read no more than shows that they are too long."""
+    for each in handed:
+        if isinstance(each, Input) and each.size is not None:
+            said = re.sub(rb"(/proc/self/fd/%d\) has) more than \d+ bytes" % each.descriptor, rb"\1 %d bytes" % each.size, said)
+    return said
 
 
 def named_in(said: bytes, handed: Dict[int, str]) -> str:

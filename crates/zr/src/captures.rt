@@ -26,20 +26,20 @@ pub fn code() {
     let a = i.bytes;
     let b = j.bytes;
     let k = buffer_sizes::capture(n);
-    let answer = code_files(n, m0, &info[0..a], &parity[0..b], &mut capture[0..k]);
-    if answer.number != 0 {
-        refused(answer, b",information,parity,capture");
-        said::length(answer, b"INFO", 4, i.size, buffer_sizes::information(n));
-        said::length(answer, b"PARITY", 5, j.size, buffer_sizes::parity(n));
-    }
+    code_files(n, m0, &info[0..a], &parity[0..b], &mut capture[0..k]);
 }
 
-fn code_files(n: u64, m0: u64, info: &[u8], parity: &[u8], capture: &mut [u8]) -> Answer {
+fn code_files(n: u64, m0: u64, info: &[u8], parity: &[u8], capture: &mut [u8]) {
     let answer = capture::code(n, m0, info, parity, capture);
-    if answer.number == 0 && files::save(6, capture) {
+    if answer.number != 0 {
+        refused(answer, b",information,parity,capture");
+        said::length(answer, b"INFO", 4, info.len(), buffer_sizes::information(n));
+        said::length(answer, b"PARITY", 5, parity.len(), buffer_sizes::parity(n));
+        return;
+    }
+    if files::save(6, capture) {
         said::done_words(answer.count, b"\n");
     }
-    answer
 }
 
 fn refused(answer: Answer, names: &[u8]) {
@@ -65,19 +65,25 @@ pub fn read() {
     let a = k.bytes;
     let i = buffer_sizes::information(n);
     let j = buffer_sizes::parity(n);
-    let answer = read_file(n, m0, &capture[0..a], &mut info[0..i], &mut parity[0..j]);
-    if answer.number != 0 {
-        refused(answer, b",capture,information,parity");
-        said::length(answer, b"CAPTURE", 4, k.size, buffer_sizes::capture(n));
-    }
+    read_file(n, m0, &capture[0..a], &mut info[0..i], &mut parity[0..j]);
 }
 
-fn read_file(n: u64, m0: u64, capture: &[u8], info: &mut [u8], parity: &mut [u8]) -> Answer {
+fn read_file(n: u64, m0: u64, capture: &[u8], info: &mut [u8], parity: &mut [u8]) {
     let answer = capture::read(n, m0, capture, info, parity);
-    if answer.number == 0 && files::save(5, info) && files::save(6, parity) {
+    if answer.number != 0 {
+        refused(answer, b",capture,information,parity");
+        said::length(
+            answer,
+            b"CAPTURE",
+            4,
+            capture.len(),
+            buffer_sizes::capture(n),
+        );
+        return;
+    }
+    if files::save(5, info) && files::save(6, parity) {
         said::done_words(answer.count, b" repaired\n");
     }
-    answer
 }
 
 // zr edit N BLOCK BITS PARITY CAPTURE OUT
@@ -106,23 +112,29 @@ pub fn edit() {
     let a = i.bytes;
     let b = j.bytes;
     let c = k.bytes;
-    let answer = edit_files(n, block, &bits[0..a], &parity[0..b], &mut capture[0..c]);
+    edit_files(n, block, &bits[0..a], &parity[0..b], &mut capture[0..c]);
+}
+
+fn edit_files(n: u64, block: u64, bits: &[u8], parity: &[u8], capture: &mut [u8]) {
+    let mut list = [0u64; 145];
+    let answer = capture::edit(n, block, bits, parity, capture, &mut list);
     if answer.number != 0 {
         said::refused(answer, b",client block,parity,capture,list");
         said::sets(answer, b"  N is 1 to 8 and BLOCK is 0 to 4760 N - 1\n");
-        said::length(answer, b"BITS", 4, i.size, 33);
-        said::length(answer, b"PARITY", 5, j.size, 2048);
-        said::length(answer, b"CAPTURE", 6, k.size, buffer_sizes::capture(n));
+        said::length(answer, b"BITS", 4, bits.len(), 33);
+        said::length(answer, b"PARITY", 5, parity.len(), 2048);
+        said::length(
+            answer,
+            b"CAPTURE",
+            6,
+            capture.len(),
+            buffer_sizes::capture(n),
+        );
         said::spare(answer, b"BITS", 4);
+        return;
     }
-}
-
-fn edit_files(n: u64, block: u64, bits: &[u8], parity: &[u8], capture: &mut [u8]) -> Answer {
-    let mut list = [0u64; 145];
-    let answer = capture::edit(n, block, bits, parity, capture, &mut list);
-    if answer.number == 0 && files::save(7, capture) {
+    if files::save(7, capture) {
         said::done_words(answer.count, b" rewritten:");
         said::words(&list, answer.count);
     }
-    answer
 }

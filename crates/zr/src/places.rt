@@ -22,37 +22,42 @@ pub fn convert(unmapping: bool) {
         return;
     }
     let i = loaded.bytes;
-    convert_file(unmapping, c, f, n, &from[0..i], loaded.size);
+    convert_file(unmapping, c, f, n, &from[0..i]);
 }
 
-// `size` is that of the file, of which `from` is no more than is needed.
-fn convert_file(unmapping: bool, c: u64, f: u64, n: u64, from: &[u8], size: u64) {
+fn convert_file(unmapping: bool, c: u64, f: u64, n: u64, from: &[u8]) {
     let mut to = buffer_sizes::large_space();
     if unmapping {
         let k = buffer_sizes::groups(c, f, n);
-        unmap(c, f, n, from, size, &mut to[0..k]);
+        unmap(c, f, n, from, &mut to[0..k]);
     } else {
         let k = buffer_sizes::window(n);
-        map(c, f, n, from, size, &mut to[0..k]);
+        map(c, f, n, from, &mut to[0..k]);
     }
 }
 
-fn map(c: u64, f: u64, n: u64, groups: &[u8], size: u64, window: &mut [u8]) {
+fn map(c: u64, f: u64, n: u64, groups: &[u8], window: &mut [u8]) {
     let answer = gmp_map::map(c, f, n, groups, window);
     if answer.number != 0 {
         refused(answer, b",groups,window");
-        said::length(answer, b"GROUPS", 5, size, buffer_sizes::groups(c, f, n));
+        said::length(
+            answer,
+            b"GROUPS",
+            5,
+            groups.len(),
+            buffer_sizes::groups(c, f, n),
+        );
         said::spare(answer, b"GROUPS", 5);
         return;
     }
     save(answer.count, window);
 }
 
-fn unmap(c: u64, f: u64, n: u64, window: &[u8], size: u64, groups: &mut [u8]) {
+fn unmap(c: u64, f: u64, n: u64, window: &[u8], groups: &mut [u8]) {
     let answer = gmp_map::unmap(c, f, n, window, groups);
     if answer.number != 0 {
         refused(answer, b",window,groups");
-        said::length(answer, b"WINDOW", 5, size, buffer_sizes::window(n));
+        said::length(answer, b"WINDOW", 5, window.len(), buffer_sizes::window(n));
         return;
     }
     save(answer.count, groups);

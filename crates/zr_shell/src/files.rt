@@ -1,15 +1,13 @@
 // The files and numbers that the arguments name. What goes wrong with one is said here, once.
 ghost use Prim.Native.Nat.{_≤_, _<_};
-ghost use mathlib.Core.Path.{_≡_};
 ghost use lib.ListN.{length};
 use crate::said;
 use zr_argument::Number;
 
-// Whether a file could be read, how many of its bytes are in the space that was lent, and how many it has.
+// Whether a file could be read, and how many of its bytes are in the space that was lent.
 pub struct Loaded {
     pub fine: bool,
     pub bytes: usize,
-    pub size: u64,
 }
 
 // The number that argument i is.
@@ -53,41 +51,25 @@ fn load_from(path: &[u8], into: &mut [u8]) -> Loaded
 {
     let fd = open(path);
     if fd < 0 {
-        return loaded(false, 0, 0);
+        return Loaded {
+            fine: false,
+            bytes: 0,
+        };
     }
-    let seen = read_all(fd, into);
-    if !seen.fine {
+    let loaded = read_all(fd, into);
+    if !loaded.fine {
         unread(path);
     }
-    let end = libc::lseek(fd, 0, libc::SEEK_END);
     libc::close(fd);
-    loaded(seen.fine, seen.bytes, end)
-}
-
-// A file that is longer than the space was not read to its end, so it is asked where that is. The launcher hands over none that cannot tell.
-fn loaded(fine: bool, bytes: usize, end: i64) -> Loaded
-    ensures { λ r. ⌜ r .bytes ≡ bytes ⌝ }
-{
-    let size = if end < bytes as i64 {
-        bytes as u64
-    } else {
-        end as u64
-    };
-    Loaded { fine, bytes, size }
+    loaded
 }
 
 pub fn unread(path: &[u8]) {
     failed(path, b" cannot be read\n");
 }
 
-// Whether the last read was fine, and how many bytes were read.
-struct Seen {
-    fine: bool,
-    bytes: usize,
-}
-
 // A read that moves nothing ends the file, or fails.
-fn read_all(fd: i32, into: &mut [u8]) -> Seen
+fn read_all(fd: i32, into: &mut [u8]) -> Loaded
     ensures { λ r. ⌜ r .bytes ≤ length (now (into .exit)) ⌝ }
 {
     let mut done = 0;
@@ -95,14 +77,14 @@ fn read_all(fd: i32, into: &mut [u8]) -> Seen
         let got = libc::read(fd, &mut into[done..]);
         let more = io::count(got, into);
         if more == 0 {
-            return Seen {
+            return Loaded {
                 fine: got == 0,
                 bytes: done,
             };
         }
         done = moved(done, more, into.len());
     }
-    Seen {
+    Loaded {
         fine: true,
         bytes: done,
     }

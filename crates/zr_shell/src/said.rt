@@ -106,14 +106,20 @@ pub fn sets(answer: Answer, text: &[u8]) {
     }
 }
 
-// Under a refusal by 2: a file whose length is wrong. It is argument i, and what that is called in the help.
-pub fn length(answer: Answer, name: &[u8], i: usize, has: u64, wanted: usize) {
-    if answer.number != answer::WRONG_LENGTH || has == wanted as u64 {
+// Under a refusal by 2: a file whose length is wrong. It is argument i, and what that is called in the help. No more was read of it than shows that it is too
+// long.
+pub fn length(answer: Answer, name: &[u8], i: usize, has: usize, wanted: usize) {
+    if answer.number != answer::WRONG_LENGTH || has == wanted {
         return;
     }
     file(name, i);
-    say(b" has ");
-    say_number(has);
+    if wanted < has {
+        say(b" has more than ");
+        say_number(wanted as u64);
+    } else {
+        say(b" has ");
+        say_number(has as u64);
+    }
     say(b" bytes, and ");
     say_number(wanted as u64);
     say(b" are wanted\n");
