@@ -50,6 +50,27 @@ static zr_answer done(uint64_t count) { return (zr_answer){0, 0, count}; }
 
 static zr_answer refused(uint64_t number, uint64_t place) { return (zr_answer){number, place, 0}; }
 
+/* ---- lent buffers */
+
+/* The length of a buffer, and the length that is stated for it. */
+struct lent {
+    uint64_t length, stated;
+};
+
+/* The position, from 1, of the first buffer whose length is not the stated one; 0 where all are right. A call lists its
+ * buffers in the order of its parameters, since it is their order that decides. */
+static uint64_t first_wrong(const struct lent *lent, size_t count)
+{
+    for (size_t k = 0; k < count; k++)
+        if (lent[k].length != lent[k].stated)
+            return k + 1;
+    return 0;
+}
+
+#define FIRST_WRONG(lent) first_wrong(lent, sizeof(lent) / sizeof *(lent))
+
+enum { SPARE_BITS_AT = 1 }; /* the first buffer is the only one that has spare bits: groups to be mapped, a client block */
+
 /* ---- bits and elements */
 
 static inline uint64_t load(const uint8_t *from)
@@ -458,10 +479,12 @@ zr_answer zr400_map(uint64_t c, uint64_t f, uint64_t n, const uint8_t *groups, s
     if (!window_is_stated(c, f, n))
         return refused(1, 0);
     uint64_t d = data_places(c, f, n);
-    if (groups_length != (257 * d + 1) / 2 || window_length != 257 * n / 2)
-        return refused(2, 0);
+    const struct lent lent[] = {{groups_length, ZR400_GROUPS_BYTES(d)}, {window_length, ZR400_WINDOW_BYTES(n)}};
+    uint64_t wrong = FIRST_WRONG(lent);
+    if (wrong != 0)
+        return refused(2, wrong);
     if (d % 2 == 1 && (groups[groups_length - 1] & 15) != 0)
-        return refused(3, 0);
+        return refused(3, SPARE_BITS_AT);
     size_t used = 0;
     for (uint64_t j = f, next; j < f + n; j = next) {
         next = last_of_run(c, j, f + n - 1) + 1;
@@ -481,8 +504,10 @@ zr_answer zr400_unmap(uint64_t c, uint64_t f, uint64_t n, const uint8_t *window,
     if (!window_is_stated(c, f, n))
         return refused(1, 0);
     uint64_t d = data_places(c, f, n);
-    if (window_length != 257 * n / 2 || groups_length != (257 * d + 1) / 2)
-        return refused(2, 0);
+    const struct lent lent[] = {{window_length, ZR400_WINDOW_BYTES(n)}, {groups_length, ZR400_GROUPS_BYTES(d)}};
+    uint64_t wrong = FIRST_WRONG(lent);
+    if (wrong != 0)
+        return refused(2, wrong);
     size_t used = 0;
     for (uint64_t j = f, next; j < f + n; j = next) {
         next = last_of_run(c, j, f + n - 1) + 1;
@@ -505,7 +530,9 @@ zr_answer zr400_information(uint64_t n, uint64_t t, const uint8_t *info, size_t 
     (void)info;
     if (!n_is_stated(n) || t >= 5 * n)
         return refused(1, 0);
-    return info_length == ZR400_INFORMATION_BYTES(n) ? done(0) : refused(2, 0);
+    const struct lent lent[] = {{info_length, ZR400_INFORMATION_BYTES(n)}};
+    uint64_t wrong = FIRST_WRONG(lent);
+    return wrong == 0 ? done(0) : refused(2, wrong);
 }
 
 /* The bytes of CRC, MBAS and parity, and zeros up to the eighteenth eight of elements. */
@@ -563,9 +590,12 @@ zr_answer zr400_code(uint64_t n, uint64_t m0, const uint8_t *info, size_t info_l
 {
     if (!n_is_stated(n) || m0 > 127)
         return refused(1, 0);
-    if (info_length != ZR400_INFORMATION_BYTES(n) || parity_length != ZR400_PARITY_BYTES(n) ||
-        capture_length != ZR400_CAPTURE_BYTES(n))
-        return refused(2, 0);
+    const struct lent lent[] = {{info_length, ZR400_INFORMATION_BYTES(n)},
+                                {parity_length, ZR400_PARITY_BYTES(n)},
+                                {capture_length, ZR400_CAPTURE_BYTES(n)}};
+    uint64_t wrong = FIRST_WRONG(lent);
+    if (wrong != 0)
+        return refused(2, wrong);
     struct word e[FILLER + ELEMENTS];
     memset(e, 0, FILLER * sizeof *e);
     for (uint64_t f = 0; f < n; f++) {
@@ -706,9 +736,12 @@ zr_answer zr400_read(uint64_t n, uint64_t m0, const uint8_t *capture, size_t cap
 {
     if (!n_is_stated(n) || m0 > 127)
         return refused(1, 0);
-    if (capture_length != ZR400_CAPTURE_BYTES(n) || info_length != ZR400_INFORMATION_BYTES(n) ||
-        parity_length != ZR400_PARITY_BYTES(n))
-        return refused(2, 0);
+    const struct lent lent[] = {{capture_length, ZR400_CAPTURE_BYTES(n)},
+                                {info_length, ZR400_INFORMATION_BYTES(n)},
+                                {parity_length, ZR400_PARITY_BYTES(n)}};
+    uint64_t wrong = FIRST_WRONG(lent);
+    if (wrong != 0)
+        return refused(2, wrong);
     struct word e[ELEMENTS + FILLER];
     struct found found;
     memset(&found, 0xff, sizeof found);
@@ -828,11 +861,15 @@ zr_answer zr400_edit(uint64_t n, uint64_t block, const uint8_t *bits, size_t bit
 {
     if (!n_is_stated(n) || block >= 5 * CLIENT_BLOCKS * n)
         return refused(1, 0);
-    if (bits_length != ZR400_CLIENT_BYTES || parity_length != ZR400_BLOCK_PARITY_BYTES ||
-        capture_length != ZR400_CAPTURE_BYTES(n) || list_length != ZR400_LIST_LENGTH)
-        return refused(2, 0);
+    const struct lent lent[] = {{bits_length, ZR400_CLIENT_BYTES},
+                                {parity_length, ZR400_BLOCK_PARITY_BYTES},
+                                {capture_length, ZR400_CAPTURE_BYTES(n)},
+                                {list_length, ZR400_LIST_LENGTH}};
+    uint64_t wrong = FIRST_WRONG(lent);
+    if (wrong != 0)
+        return refused(2, wrong);
     if ((bits[32] & 0x7f) != 0)
-        return refused(3, 0);
+        return refused(3, SPARE_BITS_AT);
     struct site s = site_of(block);
     uint64_t words[ZR400_LIST_LENGTH];
     size_t count = list_words(s, words);
@@ -883,8 +920,10 @@ zr_answer zr400_archive_write(uint64_t count, const uint64_t *kinds, size_t kind
             return refused(1, 0);
         from += lengths[e];
     }
-    if (kinds_length != count || lengths_length != count || head_length != ZR400_HEAD_BYTES(count))
-        return refused(2, 0);
+    const struct lent lent[] = {{kinds_length, count}, {lengths_length, count}, {head_length, ZR400_HEAD_BYTES(count)}};
+    uint64_t wrong = FIRST_WRONG(lent);
+    if (wrong != 0)
+        return refused(2, wrong);
     memcpy(head, fixed_bytes, FIXED_BYTES);
     put_number(head + FIXED_BYTES, COUNT_BYTES, count);
     from = head_length;
@@ -921,9 +960,13 @@ static zr_answer judge_table(uint64_t size, const uint8_t *first)
 zr_answer zr400_archive_read(uint64_t size, const uint8_t *first, size_t first_length, uint64_t *kinds, size_t kinds_length,
                              uint64_t *offsets, size_t offsets_length, uint64_t *lengths, size_t lengths_length)
 {
-    if (first_length != smaller(size, ZR400_MOST_HEAD_BYTES) || kinds_length != ZR400_MOST_ENTRIES ||
-        offsets_length != ZR400_MOST_ENTRIES || lengths_length != ZR400_MOST_ENTRIES)
-        return refused(2, 0);
+    const struct lent lent[] = {{first_length, smaller(size, ZR400_MOST_HEAD_BYTES)},
+                                {kinds_length, ZR400_MOST_ENTRIES},
+                                {offsets_length, ZR400_MOST_ENTRIES},
+                                {lengths_length, ZR400_MOST_ENTRIES}};
+    uint64_t wrong = FIRST_WRONG(lent);
+    if (wrong != 0)
+        return refused(2, wrong);
     zr_answer a = judge_table(size, first);
     for (size_t e = 0; e < a.count; e++) {
         const uint8_t *entry = first + ZR400_HEAD_BYTES(e);

@@ -864,6 +864,23 @@ static void sentences(void)
     printf("version %s\n", zr400_version());
 }
 
+/* The names of a call's buffers, at places beside them too. */
+static void names_of(unsigned call)
+{
+    static const uint64_t places[7] = {0, 1, 2, 3, 4, 5, UINT64_MAX};
+    for (int k = 0; k < 7; k++)
+        printf("call %u place %lu: %s\n", call, places[k], zr400_buffer((zr_call)call, places[k]));
+}
+
+/* Every call, then the next number and the last one, which are none. */
+static void buffer_names(void)
+{
+    for (unsigned call = ZR400_CALL_RUN; call <= ZR400_CALL_ARCHIVE_READ + 1; call++)
+        names_of(call);
+    names_of(~0u);
+}
+
+#include "buffers.h"
 #include "random.h"
 
 int main(int count, char **words)
@@ -886,11 +903,16 @@ int main(int count, char **words)
         archive_writes(count - 2, words + 2);
     else if (strcmp(name, "archive_reads") == 0)
         archive_reads(count - 2, words + 2);
+    else if (strcmp(name, "buffers") == 0)
+        buffers();
     else if (strcmp(name, "sentences") == 0)
         sentences();
+    else if (strcmp(name, "buffer_names") == 0)
+        buffer_names();
     else if (strcmp(name, "random") == 0 && count > 2)
         random_calls(strtoul(words[2], NULL, 10));
     else
-        stop("usage: check coded|readings|edits|windows CASE..|places|parts|archive_writes CASE..|archive_reads CASE..|sentences|random SEED");
+        stop("usage: check coded|readings|edits|windows CASE..|places|parts|archive_writes CASE..|archive_reads CASE..|buffers|sentences|"
+             "buffer_names|random SEED");
     return 0;
 }

@@ -22,3 +22,27 @@ const char *zr400_sentence(uint64_t number)
     default: return "a number that this library does not give";
     }
 }
+
+/* A call has at most four buffers, in the order of its parameters in zr400.h; behind its last one there is none. */
+enum { MOST_BUFFERS = 4 };
+
+static const char *const buffers[][MOST_BUFFERS] = {
+    [ZR400_CALL_RUN] = {0},
+    [ZR400_CALL_RUNS] = {0},
+    [ZR400_CALL_MAP] = {"groups", "window"},
+    [ZR400_CALL_UNMAP] = {"window", "groups"},
+    [ZR400_CALL_INFORMATION] = {"information"},
+    [ZR400_CALL_CODE] = {"information", "parity", "capture"},
+    [ZR400_CALL_READ] = {"capture", "information", "parity"},
+    [ZR400_CALL_EDIT] = {"client block", "parity", "capture", "list"},
+    [ZR400_CALL_ARCHIVE_WRITE] = {"kinds", "lengths", "head"},
+    [ZR400_CALL_ARCHIVE_READ] = {"first bytes", "kinds", "offsets", "lengths"},
+};
+
+const char *zr400_buffer(zr_call call, uint64_t place)
+{
+    const char *name = NULL;
+    if ((uint64_t)call < sizeof buffers / sizeof *buffers && place >= 1 && place <= MOST_BUFFERS)
+        name = buffers[call][place - 1];
+    return name != NULL ? name : "no buffer of this call";
+}

@@ -1,7 +1,7 @@
 /* The library as a process: reads calls from standard input and writes their answers to standard output, until the input
  * ends. hosts/python/zr400/_library.py drives it where the library cannot be loaded into the interpreter itself.
  *
- * A call is eight numbers: the call's own (the order of `shapes`), three numbers that are its arguments (unused ones 0), and
+ * A call is eight numbers: the call's own (a zr_call of the header), three numbers that are its arguments (unused ones 0), and
  * the lengths in bytes of its buffers (unused ones 0), then the bytes of all its buffers. The answer is three numbers, then the
  * bytes of the buffers that the call may write. A number is eight bytes, low byte first. */
 #include "zr400.h"
@@ -21,7 +21,7 @@ static const struct {
     unsigned buffers, written;
 } shapes[] = {{0, 0}, {0, 0}, {2, 1}, {2, 1}, {1, 1}, {3, 2}, {3, 1}, {4, 2}, {3, 2}, {4, 1}};
 
-enum { RUN, RUNS, MAP, UNMAP, INFORMATION, CODE, READ, EDIT, ARCHIVE_WRITE, ARCHIVE_READ, CALLS };
+enum { CALLS = sizeof shapes / sizeof *shapes };
 
 static void stop(const char *what)
 {
@@ -61,18 +61,18 @@ static zr_answer answer(const struct call *c, uint8_t *b[BUFFERS])
 {
     const uint64_t *n = c->numbers, *l = c->lengths;
     switch (c->name) {
-    case RUN: {
+    case ZR400_CALL_RUN: {
         zr_run r = zr400_run(n[0], n[1]);
         return (zr_answer){r.number, r.kind, r.last};
     }
-    case RUNS: return zr400_runs(n[0], n[1]);
-    case MAP: return zr400_map(n[0], n[1], n[2], b[0], l[0], b[1], l[1]);
-    case UNMAP: return zr400_unmap(n[0], n[1], n[2], b[0], l[0], b[1], l[1]);
-    case INFORMATION: return zr400_information(n[0], n[1], b[0], l[0]);
-    case CODE: return zr400_code(n[0], n[1], b[0], l[0], b[1], l[1], b[2], l[2]);
-    case READ: return zr400_read(n[0], n[1], b[0], l[0], b[1], l[1], b[2], l[2]);
-    case EDIT: return zr400_edit(n[0], n[1], b[0], l[0], b[1], l[1], b[2], l[2], LIST(3));
-    case ARCHIVE_WRITE: return zr400_archive_write(n[0], LIST(0), LIST(1), b[2], l[2]);
+    case ZR400_CALL_RUNS: return zr400_runs(n[0], n[1]);
+    case ZR400_CALL_MAP: return zr400_map(n[0], n[1], n[2], b[0], l[0], b[1], l[1]);
+    case ZR400_CALL_UNMAP: return zr400_unmap(n[0], n[1], n[2], b[0], l[0], b[1], l[1]);
+    case ZR400_CALL_INFORMATION: return zr400_information(n[0], n[1], b[0], l[0]);
+    case ZR400_CALL_CODE: return zr400_code(n[0], n[1], b[0], l[0], b[1], l[1], b[2], l[2]);
+    case ZR400_CALL_READ: return zr400_read(n[0], n[1], b[0], l[0], b[1], l[1], b[2], l[2]);
+    case ZR400_CALL_EDIT: return zr400_edit(n[0], n[1], b[0], l[0], b[1], l[1], b[2], l[2], LIST(3));
+    case ZR400_CALL_ARCHIVE_WRITE: return zr400_archive_write(n[0], LIST(0), LIST(1), b[2], l[2]);
     default: return zr400_archive_read(n[0], b[0], l[0], LIST(1), LIST(2), LIST(3));
     }
 }

@@ -11,8 +11,8 @@
  *   no.  given exactly when                                                                place
  *   0    done                                                                              0
  *   1    a number is outside its stated set                                                0
- *   2    a buffer's length is not the stated one                                           0
- *   3    a spare bit is not zero                                                           0
+ *   2    a buffer's length is not the stated one                                           the buffer
+ *   3    a spare bit is not zero                                                           the buffer
  *   4    reading: a word beyond repair                                                     word
  *   5    reading: a filler word not zero after repair                                      word
  *   6    reading: MBAS not the expected number                                             FEC block of the capture
@@ -23,8 +23,9 @@
  *   11   archive: count missing or outside 1..32, or a kind outside 1..3 in a whole entry  the entry
  *   12   archive: an entry cut off, or an offset or the end not where the rule puts it     the entry
  *
- * If several apply, the smallest number is given, then the smallest place. Words, FEC blocks and super frames count
- * from 0, the entries of a capture file from 1; 11 at place 0 speaks of the count. The count of a refusal is 0.
+ * If several apply, the smallest number is given, then the smallest place. Buffers count from 1 in the order of the
+ * call's parameters, as the entries of a capture file do; words, FEC blocks and super frames count from 0. 11 at place 0
+ * speaks of the count. The count of a refusal is 0.
  */
 #ifndef ZR400_H
 #define ZR400_H
@@ -63,6 +64,20 @@ extern "C" {
 
 typedef struct { uint64_t number, place, count; } zr_answer;
 typedef struct { uint64_t number, kind, last; } zr_run;               /* kind 0 stuff, 1 data */
+
+/* The calls below, in their order. */
+typedef enum {
+    ZR400_CALL_RUN = 0,
+    ZR400_CALL_RUNS,
+    ZR400_CALL_MAP,
+    ZR400_CALL_UNMAP,
+    ZR400_CALL_INFORMATION,
+    ZR400_CALL_CODE,
+    ZR400_CALL_READ,
+    ZR400_CALL_EDIT,
+    ZR400_CALL_ARCHIVE_WRITE,
+    ZR400_CALL_ARCHIVE_READ
+} zr_call;
 
 /* The kind of place j (1..10,220) under the count c (0..10,220), and the last place of its run. Refused: stuff, 0. */
 zr_run zr400_run(uint64_t c, uint64_t j);
@@ -107,6 +122,10 @@ zr_answer zr400_archive_read(uint64_t size, const uint8_t *first, size_t first_l
 
 /* The table's sentence for a number, and for a number that no call gives a sentence that says so. The text stays. */
 const char *zr400_sentence(uint64_t number);
+
+/* The name of the buffer at the place that a call gave with 2 or 3: "capture" for ZR400_CALL_CODE and 3. Where the call has no
+ * buffer, and for a number that is no call, the text says so. The text stays. */
+const char *zr400_buffer(zr_call call, uint64_t place);
 
 /* The version of the library: three numbers with points between them. */
 const char *zr400_version(void);

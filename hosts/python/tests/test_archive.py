@@ -178,25 +178,27 @@ class Refusals(unittest.TestCase):
         ):
             self.assertEqual(refusal(call), "number 1 place 0 count 0")
         # an entry that was not handed in has no number outside its set
-        self.assertEqual(refusal(lambda: zr400.archive_write(1, [1, -1], [0, 2**64])), "number 2 place 0 count 0")
+        self.assertEqual(refusal(lambda: zr400.archive_write(1, [1, -1], [0, 2**64])), "number 2 place 1 count 0")
 
     def test_every_buffer_has_its_name(self):
         made = [array.array("Q", bytes(8 * length)) for length in (31, 32, 33)]
-        for call, buffer, length, wanted, items in (
-            (lambda: zr400.archive_write(2, [1], [0, 0]), "kinds", 1, 2, "numbers"),
-            (lambda: zr400.archive_write(2, [1, 1], [0, 0, 0]), "lengths", 3, 2, "numbers"),
-            (lambda: zr400.archive_write(2, [1, 1], [0, 0], bytearray(35)), "head", 35, 36, "bytes"),
-            (lambda: zr400.archive_read(27, EMPTY + b"\0"), "first", 28, 27, "bytes"),
-            (lambda: zr400.archive_read(10**6, EMPTY), "first", 27, 306, "bytes"),
-            (lambda: zr400.archive_read(27, EMPTY, made[0]), "kinds", 31, 32, "numbers"),
-            (lambda: zr400.archive_read(27, EMPTY, None, made[2]), "offsets", 33, 32, "numbers"),
-            (lambda: zr400.archive_read(27, EMPTY, None, None, array.array("Q")), "lengths", 0, 32, "numbers"),
+        for call, place, title, buffer, length, wanted, items in (
+            (lambda: zr400.archive_write(2, [1], [0, 0]), 1, "kinds", "kinds", 1, 2, "numbers"),
+            (lambda: zr400.archive_write(2, [1, 1], [0, 0, 0]), 2, "lengths", "lengths", 3, 2, "numbers"),
+            (lambda: zr400.archive_write(2, [1, 1], [0, 0], bytearray(35)), 3, "head", "head", 35, 36, "bytes"),
+            (lambda: zr400.archive_read(27, EMPTY + b"\0"), 1, "first bytes", "first", 28, 27, "bytes"),
+            (lambda: zr400.archive_read(10**6, EMPTY), 1, "first bytes", "first", 27, 306, "bytes"),
+            (lambda: zr400.archive_read(27, EMPTY, made[0]), 2, "kinds", "kinds", 31, 32, "numbers"),
+            (lambda: zr400.archive_read(27, EMPTY, None, made[2]), 3, "offsets", "offsets", 33, 32, "numbers"),
+            (lambda: zr400.archive_read(27, EMPTY, None, None, array.array("Q")), 4, "lengths", "lengths", 0, 32, "numbers"),
         ):
             with self.assertRaises(zr400.Refused) as caught:
                 call()
             refused = caught.exception
-            self.assertEqual((refused.number, refused.buffer, refused.length, refused.wanted), (2, buffer, length, wanted))
-            self.assertEqual(str(refused), f"refused 2: {SENTENCE}: {buffer} has {length} {items}, and {wanted} are wanted")
+            self.assertEqual((refused.number, refused.place, refused.buffer), (2, place, buffer))
+            self.assertEqual((refused.length, refused.wanted), (length, wanted))
+            told = f"{buffer} has {length} {items}, and {wanted} are wanted"
+            self.assertEqual(str(refused), f"refused 2 at buffer {place}, the {title}: {SENTENCE}: {told}")
 
     def test_the_place_is_told(self):
         def told(*sets):

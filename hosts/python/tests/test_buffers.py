@@ -70,7 +70,7 @@ class Kinds(unittest.TestCase):
     def test_empty_buffers(self):
         self.assertEqual(zr400.unmap_window(0, 1, 2, bytes(257)), b"")
         self.assertEqual(zr400.map_window(0, 1, 2, b""), bytes(257))
-        self.assertEqual(refusal(lambda: zr400.code(1, 7, b"", b"")), "number 2 place 0 count 0")
+        self.assertEqual(refusal(lambda: zr400.code(1, 7, b"", b"")), "number 2 place 1 count 0")
 
 
 class Formats(unittest.TestCase):

@@ -160,7 +160,12 @@ class Lives(unittest.TestCase):
         with mmap.mmap(-1, (1 << 30) + 1) as long:
             with self.assertRaises(zr400.Refused) as caught:
                 zr400.read(1, 7, long)
-            self.assertEqual((caught.exception.number, caught.exception.length), (2, (1 << 30) + 1))
+            refused = caught.exception
+            self.assertEqual((refused.number, refused.place, refused.buffer, refused.length), (2, 1, "capture", (1 << 30) + 1))
+            with self.assertRaises(zr400.Refused) as caught:
+                zr400.edit(1, 6, bytes(33), long, bytearray(zr400.capture_length(1)))
+            refused = caught.exception
+            self.assertEqual((refused.number, refused.place, refused.buffer, refused.length), (2, 2, "parity", (1 << 30) + 1))
             with self.assertRaises(zr400.Refused) as caught:
                 zr400.read(9, 7, long)
             self.assertEqual(caught.exception.number, 1)
@@ -258,10 +263,13 @@ class Order(unittest.TestCase):
         shapes = [(name, len(re.findall(r"uint64_t \w", words)), words.count("*")) for name, words in declared]
         self.assertEqual(shapes, list(_library.CALLS))
 
+    def test_the_numbers_of_the_header(self):
+        listed = re.search(r"enum \{([^}]*)\} zr_call;", "\n".join(text_of("hosts", "c", "zr400.h")))[1]
+        names = re.sub(r" = 0|\s", "", listed).lower().split(",")
+        self.assertEqual([name.replace("_call_", "_") for name in names], [name for name, _, _ in _library.CALLS])
+
     def test_the_worker(self):
         text = "\n".join(text_of("hosts", "c", "worker.c"))
-        names = re.search(r"enum { (RUN, [^}]*), CALLS }", text)[1].lower().split(", ")
-        self.assertEqual([f"zr400_{name}" for name in names], [name for name, _, _ in _library.CALLS])
         shapes = re.findall(r"{(\d), (\d)}", re.search(r"shapes\[\] = {(.*)};", text)[1])
         self.assertEqual([int(buffers) for buffers, _ in shapes], [buffers for _, _, buffers in _library.CALLS])
         told = re.search(r"^WRITTEN = \((.*)\)$", "\n".join(text_of("hosts", "python", "tests", "stand_in.py")), re.M)[1]

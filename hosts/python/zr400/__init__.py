@@ -72,8 +72,8 @@ _Output = TypeVar("_Output", bound=Sized)
 # Document 01, section "Numbers handed back", and document 02: the sentence, and what the place counts.
 _SENTENCES = {
     1: ("a number is outside its stated set", ""),
-    2: ("a buffer's length is not the stated one", ""),
-    3: ("a spare bit is not zero", ""),
+    2: ("a buffer's length is not the stated one", "buffer"),
+    3: ("a spare bit is not zero", "buffer"),
     4: ("reading: a word beyond repair", "word"),
     5: ("reading: a filler word not zero after repair", "word"),
     6: ("reading: MBAS not the expected number", "FEC block"),
@@ -84,29 +84,46 @@ _SENTENCES = {
     11: ("archive: count missing or outside 1..32, or a kind outside 1..3 in a whole entry", "entry"),
     12: ("archive: an entry cut off, or an offset or the end not where the rule puts it", "entry"),
 }
+_FROM_ONE = ("buffer", "entry")
+"""What is counted from 1: there place 0 is none of them, and is not told."""
+
+
+class _Told(NamedTuple):
+    """What a refusal can tell of a buffer of its call."""
+
+    name: str
+    title: str
+    length: int
+    wanted: int
+    items: str
 
 
 class Refused(ValueError):
-    """The coder refused a call. `number`, `place` and `sentence` are those of the documents' table. Entries count from 1; 11 at place 0 speaks
-    of the count.
+    """The coder refused a call. `number`, `place` and `sentence` are those of the documents' table. Buffers count from 1 in the order in which
+    the documents name them, and entries from 1; 11 at place 0 speaks of the count.
 
-    For number 2 `buffer`, `length` and `wanted` are the first wrong buffer's parameter, its bytes and the bytes that are
-    wanted, or the numbers of a list, and the message tells of every wrong one. For other numbers they are None.
+    For numbers 2 and 3 `buffer` is the parameter of the buffer at the place. For number 2 `length` and `wanted` are its bytes and the bytes that
+    are wanted, or the numbers of a list, and the message tells of every wrong buffer. For other numbers they are None.
     """
 
-    def __init__(self, number: int, place: int = 0, wrong: Sequence[Tuple[str, int, int, str]] = ()) -> None:
+    def __init__(self, number: int, place: int = 0, lent: Sequence[_Told] = ()) -> None:
         sentence, unit = _SENTENCES.get(number, ("a number that this module does not know", "place"))
-        told = "; ".join(f"{name} has {length} {items}, and {wanted} are wanted" for name, length, wanted, items in wrong)
-        at = f" at {unit} {place}" if unit and (place or unit != "entry") else ""
-        super().__init__(f"refused {number}{at}: {sentence}{': ' if told else ''}{told}")
+        at = f" at {unit} {place}" if unit and (place or unit not in _FROM_ONE) else ""
         self.number = number
         self.place = place
         self.sentence = sentence
         self.buffer: Optional[str] = None
         self.length: Optional[int] = None
         self.wanted: Optional[int] = None
-        if wrong:
-            self.buffer, self.length, self.wanted, _ = wrong[0]
+        if unit == "buffer" and 1 <= place <= len(lent):
+            fault = lent[place - 1]
+            at += f", the {fault.title}"
+            self.buffer = fault.name
+            if number == 2:
+                self.length, self.wanted = fault.length, fault.wanted
+        wrong = [b for b in lent if number == 2 and b.length != b.wanted]
+        told = "; ".join(f"{b.name} has {b.length} {b.items}, and {b.wanted} are wanted" for b in wrong)
+        super().__init__(f"refused {number}{at}: {sentence}{': ' if told else ''}{told}")
 
     def __reduce__(self) -> Tuple[Any, ...]:
         return _refused_again, (type(self), self.args, self.__dict__)
@@ -280,7 +297,7 @@ def unmap_window(
 def information(n: SupportsIndex, t: SupportsIndex, info: Buffer) -> memoryview:
     """The information of FEC block t (0..5 N - 1): that part of the lent buffer itself, 30,583 bytes, no copy."""
     n, t = _whole(n=n, t=t)
-    _granted(_library.INFORMATION, (n, t), (_Lent("info", info, information_length(n)),))
+    _granted(_library.INFORMATION, (n, t), (_Lent("info", info, information_length(n), title="information"),))
     return memoryview(info).cast("B")[_BLOCK_BYTES * t : _BLOCK_BYTES * (t + 1)]
 
 
@@ -322,7 +339,7 @@ def edit(n: SupportsIndex, block: SupportsIndex, bits: Buffer, parity: Buffer, c
     """
     n, block = _whole(n=n, block=block)
     listed = array.array("Q", bytes(8 * _LIST_LENGTH))
-    taken = _Lent("bits", bits, _CLIENT_BYTES), _Lent("parity", parity, _BLOCK_PARITY_BYTES)
+    taken = _Lent("bits", bits, _CLIENT_BYTES, title="client block"), _Lent("parity", parity, _BLOCK_PARITY_BYTES)
     given = _Lent("capture", capture, capture_length(n)), _Lent("list", listed, _LIST_LENGTH, is_list=True)
     count = _granted(_library.EDIT, (n, block), taken, given)
     return listed[:count].tolist()
@@ -366,7 +383,7 @@ def archive_read(
     (size,) = _whole(size=size)
     lists = [array.array("Q", bytes(8 * MOST_ENTRIES)) if lent is None else lent for lent in (kinds, offsets, lengths)]
     given = [_Lent(name, lent, MOST_ENTRIES, is_list=True) for name, lent in zip(("kinds", "offsets", "lengths"), lists)]
-    taken = _Lent("first", first, min(size, _MOST_HEAD_BYTES))
+    taken = _Lent("first", first, min(size, _MOST_HEAD_BYTES), title="first bytes")
     count = _granted(_library.ARCHIVE_READ, (size,), (taken,), given)
     return Table(*lists, count)
 
@@ -456,10 +473,11 @@ def _is_window(c: int, f: int, n: int) -> bool:
 def _granted(which: int, numbers: Sequence[int], inputs: Sequence[_Lent] = (), outputs: Sequence[_Lent] = ()) -> int:
     """The count of a call, or its refusal."""
     (number, place, count), lengths = _library.call(which, numbers, inputs, outputs)
-    if number == 2:
-        lent = zip((*inputs, *outputs), lengths)
-        wrong = [(b.name, length, b.wanted, "numbers" if b.is_list else "bytes") for b, length in lent if length != b.wanted]
-        raise Refused(number, place, wrong)
     if number:
-        raise Refused(number, place)
+        lent = zip((*inputs, *outputs), lengths)
+        raise Refused(number, place, [_told_of(b, length) for b, length in lent])
     return count
+
+
+def _told_of(lent: _Lent, length: int) -> _Told:
+    return _Told(lent.name, lent.title or lent.name, length, lent.wanted, "numbers" if lent.is_list else "bytes")

@@ -33,16 +33,18 @@ _HOSTS = os.path.dirname(os.path.dirname(_HERE))
 
 
 class Lent(NamedTuple):
-    """A buffer of a call: its parameter's name, the object, and the length that the documents state for it: in bytes, and for a list in numbers."""
+    """A buffer of a call: its parameter's name, the object, and the length that the documents state for it: in bytes, and for a list in numbers.
+    Where the documents call it otherwise than the parameter, the title is their name."""
 
     name: str
     buffer: Any
     wanted: int
     is_list: bool = False
+    title: str = ""
 
 
 def call(which: int, numbers: Sequence[int], inputs: Sequence[Lent], outputs: Sequence[Lent]) -> Tuple[Answer, List[int]]:
-    """The answer of the library, and the lengths of the buffers, inputs first."""
+    """The answer of the library, and the lengths of the buffers, inputs first. This is the order of the call's parameters, in which places count."""
     loans: List[Loan] = []
     try:
         for lent in inputs:
