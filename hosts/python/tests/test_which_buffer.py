@@ -9,7 +9,7 @@ import os
 import unittest
 from typing import Any, Callable, Dict, NamedTuple, Optional, Sequence, Tuple
 
-from common import OUT, REPOSITORY, Generator, _library, coded, digest, seeded, text_of, zr400
+from common import OUT, Generator, _library, coded, digest, seeded, text_of, zr400
 
 TEXT = ("crates", "test_buffers", "stdout")
 SENTENCE = "a buffer's length is not the stated one"
@@ -252,7 +252,6 @@ class WhichBuffer(unittest.TestCase):
             self.assertEqual((outcome.refused.place, outcome.refused.buffer), (0, None))
             self.assertEqual(str(outcome.refused), "refused 1: a number is outside its stated set")
 
-    @unittest.skipUnless(os.path.exists(os.path.join(REPOSITORY, *TEXT)), "the second program's text is not there")
     def test_the_second_programs_text(self):
         self.assertEqual([outcome.line for outcome in self.outcomes], text_of(*TEXT))
 
