@@ -1,12 +1,12 @@
 -- `capture::information_answer` meets its contract: the tests in turn are the table. Assumes nothing.
 use Prim.Native.Nat.{_≤_}
 use mathlib.Core.Bool.{not}
-use mathlib.Core.Path.{refl, ap}
+use mathlib.Core.Path.{ap}
 use native.Mathlib.Omega.{arith}
 use Rattle.answer.specs.Numbers.{outsideSet}
 use Rattle.answer.specs.Steps.{faultsThen, rowThen, inTurn}
-use Rattle.answer.proofs.Turns.{in-turn, turn-refused, turn-length}
-use Rattle.sizes.specs.Sizes.{infoLength, mostFrames}
+use Rattle.answer.proofs.Turns.{in-turn, turn-refused}
+use Rattle.sizes.specs.Sizes.{mostFrames}
 use Rattle.line.proofs.CaptureLaws.{frames-in}
 use Rattle.capture.specs.Part.{partRows, partAnswer}
 use borrow.Author.Needs.{needs}
@@ -42,9 +42,7 @@ returns-2 : tie.Need-returns-2
 unfolding partAnswer partRows inTurn rowThen faultsThen
 returns-2 c =
     let g = c .before in
-    let n = g .before .before .before .before .args .n in
-    rw (in-turn, ← (g .before .before .one-of .ensures), g .before .if1 .left)
-    (turn-length 1 _ {s = infoLength n} (c .refuse-length .ensures) refl (g .granted .ensures))
+    rw (in-turn, ← (g .before .before .one-of .ensures), g .before .if1 .left) (rw (g .granted .ensures) at (c .refuse-length .ensures))
 
 pub information-answer-spec : {M : Type 1} → statement M
 information-answer-spec =

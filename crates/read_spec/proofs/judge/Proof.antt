@@ -1,10 +1,9 @@
 -- `read_spec::judge` meets its contract: the tests in turn are the table. Assumes nothing.
 use Prim.Native.Nat.{_≤_}
-use mathlib.Core.Path.{refl}
 use native.Mathlib.Omega.{arith}
 use Rattle.answer.specs.Steps.{faultsThen, rowThen, inTurn}
-use Rattle.answer.proofs.Turns.{in-turn, turn-length}
-use Rattle.sizes.specs.Sizes.{mostFrames, infoLength, parityLength, captureLength}
+use Rattle.answer.proofs.Turns.{in-turn}
+use Rattle.sizes.specs.Sizes.{mostFrames}
 use Rattle.line.proofs.CaptureLaws.{frames-in}
 use Rattle.read_spec.specs.Read.{readEarlyRows}
 use borrow.Author.Needs.{needs}
@@ -53,11 +52,8 @@ unfolding readEarlyRows inTurn rowThen faultsThen
 returns-2 c =
     let at-before = c .before .before in
     let g = at-before .before in
-    let n = g .before .before .before .args .n in
-    rw (in-turn, ← (g .before .before .numbers-allowed .ensures), g .before .if1 .left)
-    (turn-length 1 _ {s = captureLength n} (c .refuse-length3 .ensures) refl
-    (turn-length 2 _ {s = infoLength n} (c .before .refuse-length2 .ensures) refl
-    (turn-length 3 _ {s = parityLength n} (at-before .refuse-length .ensures) refl (g .granted .ensures))))
+    let said = rw (c .before .refuse-length2 .ensures, at-before .refuse-length .ensures, g .granted .ensures) at (c .refuse-length3 .ensures) in
+    rw (in-turn, ← (g .before .before .numbers-allowed .ensures), g .before .if1 .left) said
 
 pub judge-spec : {M : Type 1} → statement M
 judge-spec =
