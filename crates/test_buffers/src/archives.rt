@@ -29,9 +29,9 @@ fn write_into(name: &[u8], count: u64, kinds: &[u64], lengths: &[u64], head: &mu
 }
 
 pub fn write(name: &[u8], count: u64, p: u64) {
-    let a = lent::first(2, p) % 4;
-    let b = lent::second(2, p) % 4;
-    let k = lent::third(HEAD, p) % (LONG_HEAD + 1);
+    let a = lent::length(2, p) % 4;
+    let b = lent::length(2, p / 3) % 4;
+    let k = lent::length(HEAD, p / 9) % (LONG_HEAD + 1);
     let kinds = [1u64, 3, 2];
     let lengths = [5u64, 7, 9];
     let mut head = [0u8; LONG_HEAD];
@@ -71,10 +71,10 @@ fn file() -> [u8; LONG_FILE] {
 }
 
 pub fn read(p: u64) {
-    let i = lent::first(FILE, p) % (LONG_FILE + 1);
-    let a = lent::second(MOST_ENTRIES, p) % (LONG_LIST + 1);
-    let b = lent::third(MOST_ENTRIES, p) % (LONG_LIST + 1);
-    let c = lent::fourth(MOST_ENTRIES, p) % (LONG_LIST + 1);
+    let i = lent::length(FILE, p) % (LONG_FILE + 1);
+    let a = lent::length(MOST_ENTRIES, p / 3) % (LONG_LIST + 1);
+    let b = lent::length(MOST_ENTRIES, p / 9) % (LONG_LIST + 1);
+    let c = lent::length(MOST_ENTRIES, p / 27) % (LONG_LIST + 1);
     let first = file();
     let mut kinds = list();
     let mut offsets = list();

@@ -36,14 +36,14 @@ fn code_into(name: &[u8], n: u64, info: &[u8], parity: &[u8], capture: &mut [u8]
     test_print::end();
 }
 
-// The parity stands behind the information in one room.
+// The parity stands behind the information in one room, which has space for both.
 fn code_from(name: &[u8], n: u64, p: u64, room: &[u8])
     requires { ⌜ largeBytes ≡ length (now room) ⌝ }
 {
     let mut capture = buffer_sizes::large_space();
-    let a = lent::first(sizes::SUPER_INFO_BYTES, p) % 1300000;
-    let b = a + lent::second(sizes::SUPER_PARITY_BYTES, p) % 100000;
-    let k = lent::third(CAPTURE_BYTES, p) % LENGTHS;
+    let a = lent::length(sizes::SUPER_INFO_BYTES, p) % 1300000;
+    let b = a + lent::length(sizes::SUPER_PARITY_BYTES, p / 3) % 100000;
+    let k = lent::length(CAPTURE_BYTES, p / 9) % LENGTHS;
     code_into(name, n, &room[0..a], &room[a..b], &mut capture[0..k]);
 }
 
@@ -76,9 +76,9 @@ fn coded() -> Large {
 }
 
 pub fn read(name: &[u8], n: u64, p: u64) {
-    let k = lent::first(CAPTURE_BYTES, p) % LENGTHS;
-    let a = lent::second(sizes::SUPER_INFO_BYTES, p) % LENGTHS;
-    let b = lent::third(sizes::SUPER_PARITY_BYTES, p) % SMALL_LENGTHS;
+    let k = lent::length(CAPTURE_BYTES, p) % LENGTHS;
+    let a = lent::length(sizes::SUPER_INFO_BYTES, p / 3) % LENGTHS;
+    let b = lent::length(sizes::SUPER_PARITY_BYTES, p / 9) % SMALL_LENGTHS;
     let capture = coded();
     let mut info = buffer_sizes::large_space();
     let mut parity = buffer_sizes::small_space();
@@ -133,10 +133,10 @@ fn listed() -> [u64; LONG_LIST] {
 }
 
 pub fn edit(name: &[u8], n: u64, spare: u8, p: u64) {
-    let i = lent::first(sizes::BLOCK_BYTES, p) % (LONG_BLOCK + 1);
-    let j = lent::second(sizes::PARITY_BYTES, p) % (LONG_PARITY + 1);
-    let k = lent::third(CAPTURE_BYTES, p) % LENGTHS;
-    let l = lent::fourth(sizes::LIST_LENGTH, p) % (LONG_LIST + 1);
+    let i = lent::length(sizes::BLOCK_BYTES, p) % (LONG_BLOCK + 1);
+    let j = lent::length(sizes::PARITY_BYTES, p / 3) % (LONG_PARITY + 1);
+    let k = lent::length(CAPTURE_BYTES, p / 9) % LENGTHS;
+    let l = lent::length(sizes::LIST_LENGTH, p / 27) % (LONG_LIST + 1);
     let bits = client(spare);
     let parity = block_parity();
     let mut capture = coded();
@@ -166,6 +166,6 @@ fn part_of(name: &[u8], n: u64, info: &[u8]) {
 pub fn part(name: &[u8], n: u64, p: u64) {
     let mut info = buffer_sizes::large_space();
     test_input::fill(101, &mut info);
-    let a = lent::first(sizes::SUPER_INFO_BYTES, p) % LENGTHS;
+    let a = lent::length(sizes::SUPER_INFO_BYTES, p) % LENGTHS;
     part_of(name, n, &info[0..a]);
 }

@@ -30,8 +30,8 @@ fn group(spare: u8) -> [u8; LONG_GROUPS] {
 }
 
 pub fn map(name: &[u8], c: u64, spare: u8, p: u64) {
-    let a = lent::first(GROUPS, p) % (LONG_GROUPS + 1);
-    let b = lent::second(WINDOW, p) % (LONG_WINDOW + 1);
+    let a = lent::length(GROUPS, p) % (LONG_GROUPS + 1);
+    let b = lent::length(WINDOW, p / 3) % (LONG_WINDOW + 1);
     let groups = group(spare);
     let mut window = [0u8; LONG_WINDOW];
     map_into(name, c, &groups[0..a], &mut window[0..b]);
@@ -48,8 +48,8 @@ fn unmap_into(name: &[u8], c: u64, window: &[u8], groups: &mut [u8]) {
 }
 
 pub fn unmap(name: &[u8], c: u64, p: u64) {
-    let a = lent::first(WINDOW, p) % (LONG_WINDOW + 1);
-    let b = lent::second(GROUPS, p) % (LONG_GROUPS + 1);
+    let a = lent::length(WINDOW, p) % (LONG_WINDOW + 1);
+    let b = lent::length(GROUPS, p / 3) % (LONG_GROUPS + 1);
     let mut groups = [0u8; LONG_GROUPS];
     let mut window = [0u8; LONG_WINDOW];
     test_input::fill(999, &mut window);
