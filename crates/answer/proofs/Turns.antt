@@ -20,7 +20,7 @@ use Rattle.answer.specs.declared.Answer.{Answer}
 
 -- ---- one row, as the test that code makes of it
 
-row-none : (r : Row) (rows : List Row) (c : ℕ) → ((p : ℕ) → p < placesOf r → holdsAt r p ≡ false) → answerOf (r ∷ rows) c ≡ answerOf rows c
+pub row-none : (r : Row) (rows : List Row) (c : ℕ) → ((p : ℕ) → p < placesOf r → holdsAt r p ≡ false) → answerOf (r ∷ rows) c ≡ answerOf rows c
 unfolding answerOf firstOf
 row-none r rows c h = rw (first-none (holdsAt r) (placesOf r) h, le-ltb (placesOf r) (placesOf r) (omega arith))
 
@@ -119,31 +119,31 @@ pub early-refused : (early late : List Row) (c d : ℕ) {r : Answer} → r ≡ i
 early-refused early late c d {r} e n =
     e ∙ stops early c (answerOf late d) (λ z. n (ap (λ (x : Answer). x .number) e ∙ z)) ∙ sym (turn-late early late d)
 
--- ---- what a call has shown that is answered by another number than those of its rows. One that goes on is answered by 0
+-- ---- what a call that goes on has shown: the number is 0 only if no test refused, where each refuses by a number that is not 0
 
-test-passed : (t : Bool) (k p j : ℕ) (x : Answer) → (k ≡ j → ⊥) → cond t (refused k p) x .number ≡ j → (t ≡ false) × (x .number ≡ j)
-test-passed true k p j x h e = absurd (h e)
-test-passed false k p j x h e = (refl, e)
+test-passed : (t : Bool) (k p : ℕ) (x : Answer) → 0 < k → cond t (refused k p) x .number ≡ allDone → (t ≡ false) × (x .number ≡ allDone)
+test-passed true k p x h e = absurd (omega arith)
+test-passed false k p x h e = (refl, e)
 
-faults-passed : (k : ℕ) (bs : List Bool) (i j : ℕ) (x : Answer) → (k ≡ j → ⊥) → faultsThen k bs i x .number ≡ j → NoFault bs × (x .number ≡ j)
+faults-passed : (k : ℕ) (bs : List Bool) (i : ℕ) (x : Answer) → 0 < k → faultsThen k bs i x .number ≡ allDone → NoFault bs × (x .number ≡ allDone)
 unfolding faultsThen NoFault
-faults-passed k [] i j x h e = (tt, e)
-faults-passed k (b ∷ bs) i j x h e =
-    let t = test-passed b k (bufferPlace i) j (faultsThen k bs (suc i) x) h e in
-    let s = faults-passed k bs (suc i) j x h (t .1) in ((t .0, s .0), s .1)
+faults-passed k [] i x h e = (tt, e)
+faults-passed k (b ∷ bs) i x h e =
+    let t = test-passed b k (bufferPlace i) (faultsThen k bs (suc i) x) h e in
+    let s = faults-passed k bs (suc i) x h (t .1) in ((t .0, s .0), s .1)
 
-pub row-passed : (r : Row) (j : ℕ) (x : Answer) → (rowNumber r ≡ j → ⊥) → rowThen r x .number ≡ j → RowPassed r × (x .number ≡ j)
+row-passed : (r : Row) (x : Answer) → 0 < rowNumber r → rowThen r x .number ≡ allDone → RowPassed r × (x .number ≡ allDone)
 unfolding rowThen RowPassed rowNumber
-row-passed (whole k b) j x h e = test-passed b k 0 j x h e
-row-passed (buffers k bs) j x h e = faults-passed k bs 1 j x h e
-row-passed (each k n p) j x h e = test-passed (ltb (first p n) n) k (first p n) j x h e
+row-passed (whole k b) x h e = test-passed b k 0 x h e
+row-passed (buffers k bs) x h e = faults-passed k bs 1 x h e
+row-passed (each k n p) x h e = test-passed (ltb (first p n) n) k (first p n) x h e
 
 passed-from : (a : ℕ) (rows : List Row) (x : Answer) → rising a rows ≡ true → inTurn rows x .number ≡ allDone → Passed rows
 unfolding inTurn Passed rising
 passed-from a [] x e z = tt
 passed-from a (r ∷ rows) x e z =
     let above = ltb-true a (rowNumber r) (and-left (ltb a (rowNumber r)) (rising (rowNumber r) rows) e) in
-    let p = row-passed r allDone (inTurn rows x) (λ q. absurd (omega arith)) z in
+    let p = row-passed r (inTurn rows x) (omega arith) z in
     (p .0, passed-from (rowNumber r) rows x (and-right (ltb a (rowNumber r)) (rising (rowNumber r) rows) e) (p .1))
 
 -- WHAT IS SHOWN where a call goes on, of rows whose numbers rise
@@ -161,7 +161,7 @@ unfolding faultsThen NoFault
 no-fault k [] i x p = refl
 no-fault k (b ∷ bs) i x p = rw (p .0) (no-fault k bs (suc i) x (p .1))
 
-pub row-goes-on : (r : Row) (x : Answer) → RowPassed r → rowThen r x ≡ x
+row-goes-on : (r : Row) (x : Answer) → RowPassed r → rowThen r x ≡ x
 unfolding rowThen RowPassed
 row-goes-on (whole k b) x p = rw p
 row-goes-on (buffers k bs) x p = no-fault k bs 1 x p
