@@ -15,9 +15,12 @@ const LONG_FILE: usize = FILE + 1;
 
 const LONG_LIST: usize = MOST_ENTRIES + 1;
 
-fn write_into(name: &[u8], count: u64, kinds: &[u64], lengths: &[u64], head: &mut [u8]) {
+fn write_into(count: u64, kinds: &[u64], lengths: &[u64], head: &mut [u8]) {
     test_input::fill(999, head);
-    test_print::text(name);
+    test_print::text(b"archive write");
+    if count == 0 {
+        test_print::text(b" of count 0");
+    }
     test_print::form(
         b" # # #",
         &[kinds.len() as u64, lengths.len() as u64, head.len() as u64],
@@ -28,14 +31,14 @@ fn write_into(name: &[u8], count: u64, kinds: &[u64], lengths: &[u64], head: &mu
     test_print::end();
 }
 
-pub fn write(name: &[u8], count: u64, p: u64) {
+pub fn write(count: u64, p: u64) {
     let a = lent::length(2, p) % 4;
     let b = lent::length(2, p / 3) % 4;
     let k = lent::length(HEAD, p / 9) % (LONG_HEAD + 1);
     let kinds = [1u64, 3, 2];
     let lengths = [5u64, 7, 9];
     let mut head = [0u8; LONG_HEAD];
-    write_into(name, count, &kinds[0..a], &lengths[0..b], &mut head[0..k]);
+    write_into(count, &kinds[0..a], &lengths[0..b], &mut head[0..k]);
 }
 
 fn read_into(first: &[u8], kinds: &mut [u64], offsets: &mut [u64], lengths: &mut [u64]) {

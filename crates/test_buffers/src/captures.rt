@@ -21,11 +21,19 @@ const LONG_PARITY: usize = sizes::PARITY_BYTES + 1;
 
 const LONG_LIST: usize = sizes::LIST_LENGTH + 1;
 
+// A call, and its N where that is outside its set.
+fn name(call: &[u8], n: u64) {
+    test_print::text(call);
+    if n == 0 {
+        test_print::text(b" of N 0");
+    }
+}
+
 // ---- coding
 
-fn code_into(name: &[u8], n: u64, info: &[u8], parity: &[u8], capture: &mut [u8]) {
+fn code_into(n: u64, info: &[u8], parity: &[u8], capture: &mut [u8]) {
     test_input::fill(999, capture);
-    test_print::text(name);
+    name(b"code", n);
     test_print::form(
         b" # # #",
         &[info.len() as u64, parity.len() as u64, capture.len() as u64],
@@ -37,28 +45,28 @@ fn code_into(name: &[u8], n: u64, info: &[u8], parity: &[u8], capture: &mut [u8]
 }
 
 // The parity stands behind the information in one room, which has space for both.
-fn code_from(name: &[u8], n: u64, p: u64, room: &[u8])
+fn code_from(n: u64, p: u64, room: &[u8])
     requires { ⌜ largeBytes ≡ length (now room) ⌝ }
 {
     let mut capture = buffer_sizes::large_space();
     let a = lent::length(sizes::SUPER_INFO_BYTES, p) % 1300000;
     let b = a + lent::length(sizes::SUPER_PARITY_BYTES, p / 3) % 100000;
     let k = lent::length(CAPTURE_BYTES, p / 9) % LENGTHS;
-    code_into(name, n, &room[0..a], &room[a..b], &mut capture[0..k]);
+    code_into(n, &room[0..a], &room[a..b], &mut capture[0..k]);
 }
 
-pub fn code(name: &[u8], n: u64, p: u64) {
+pub fn code(n: u64, p: u64) {
     let mut room = buffer_sizes::large_space();
     test_input::fill(101, &mut room);
-    code_from(name, n, p, &room);
+    code_from(n, p, &room);
 }
 
 // ---- reading
 
-fn read_into(name: &[u8], n: u64, capture: &[u8], info: &mut [u8], parity: &mut [u8]) {
+fn read_into(n: u64, capture: &[u8], info: &mut [u8], parity: &mut [u8]) {
     test_input::fill(998, info);
     test_input::fill(997, parity);
-    test_print::text(name);
+    name(b"read", n);
     test_print::form(
         b" # # #",
         &[capture.len() as u64, info.len() as u64, parity.len() as u64],
@@ -75,27 +83,21 @@ fn coded() -> Large {
     capture
 }
 
-pub fn read(name: &[u8], n: u64, p: u64) {
+pub fn read(n: u64, p: u64) {
     let k = lent::length(CAPTURE_BYTES, p) % LENGTHS;
     let a = lent::length(sizes::SUPER_INFO_BYTES, p / 3) % LENGTHS;
     let b = lent::length(sizes::SUPER_PARITY_BYTES, p / 9) % SMALL_LENGTHS;
     let capture = coded();
     let mut info = buffer_sizes::large_space();
     let mut parity = buffer_sizes::small_space();
-    read_into(name, n, &capture[0..k], &mut info[0..a], &mut parity[0..b]);
+    read_into(n, &capture[0..k], &mut info[0..a], &mut parity[0..b]);
 }
 
 // ---- editing
 
-fn edit_into(
-    name: &[u8],
-    n: u64,
-    bits: &[u8],
-    parity: &[u8],
-    capture: &mut [u8],
-    list: &mut [u64],
-) {
-    test_print::text(name);
+fn edit_into(n: u64, spare: u8, bits: &[u8], parity: &[u8], capture: &mut [u8], list: &mut [u64]) {
+    name(b"edit", n);
+    lent::say_spare(spare);
     test_print::form(
         b" # # # #",
         &[
@@ -132,7 +134,7 @@ fn listed() -> [u64; LONG_LIST] {
     list
 }
 
-pub fn edit(name: &[u8], n: u64, spare: u8, p: u64) {
+pub fn edit(n: u64, spare: u8, p: u64) {
     let i = lent::length(sizes::BLOCK_BYTES, p) % (LONG_BLOCK + 1);
     let j = lent::length(sizes::PARITY_BYTES, p / 3) % (LONG_PARITY + 1);
     let k = lent::length(CAPTURE_BYTES, p / 9) % LENGTHS;
@@ -142,8 +144,8 @@ pub fn edit(name: &[u8], n: u64, spare: u8, p: u64) {
     let mut capture = coded();
     let mut list = listed();
     edit_into(
-        name,
         n,
+        spare,
         &bits[0..i],
         &parity[0..j],
         &mut capture[0..k],
@@ -153,8 +155,8 @@ pub fn edit(name: &[u8], n: u64, spare: u8, p: u64) {
 
 // ---- a part
 
-fn part_of(name: &[u8], n: u64, info: &[u8]) {
-    test_print::text(name);
+fn part_of(n: u64, info: &[u8]) {
+    name(b"part", n);
     test_print::number(b" ", info.len() as u64);
     let r: Answer = capture::information_answer(n, 4, info);
     let part = capture::information(n, 4, info);
@@ -163,9 +165,9 @@ fn part_of(name: &[u8], n: u64, info: &[u8]) {
     test_print::end();
 }
 
-pub fn part(name: &[u8], n: u64, p: u64) {
+pub fn part(n: u64, p: u64) {
     let mut info = buffer_sizes::large_space();
     test_input::fill(101, &mut info);
     let a = lent::length(sizes::SUPER_INFO_BYTES, p) % LENGTHS;
-    part_of(name, n, &info[0..a]);
+    part_of(n, &info[0..a]);
 }

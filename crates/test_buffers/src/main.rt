@@ -6,63 +6,55 @@ mod captures;
 mod lent;
 mod windows;
 
-// `EditSpare` and `MapSpare` are made with a spare bit that is set.
 enum Call {
     Code,
     Read,
     Edit,
-    EditSpare,
     Part,
     Map,
-    MapSpare,
     Unmap,
     Write,
     Open,
 }
 
-fn line(call: Call, p: u64) {
+// The first number of a call, or of mapping and unmapping the count, may be outside its set.
+fn line(call: Call, number: u64, spare: u8, p: u64) {
     match call {
-        Call::Code => captures::code(b"code", 1, p),
-        Call::Read => captures::read(b"read", 1, p),
-        Call::Edit => captures::edit(b"edit", 1, 0, p),
-        Call::EditSpare => captures::edit(b"edit with a spare bit set", 1, 1, p),
-        Call::Part => captures::part(b"part", 1, p),
-        Call::Map => windows::map(b"map", 10216, 0, p),
-        Call::MapSpare => windows::map(b"map with a spare bit set", 10216, 1, p),
-        Call::Unmap => windows::unmap(b"unmap", 10216, p),
-        Call::Write => archives::write(b"archive write", 2, p),
+        Call::Code => captures::code(number, p),
+        Call::Read => captures::read(number, p),
+        Call::Edit => captures::edit(number, spare, p),
+        Call::Part => captures::part(number, p),
+        Call::Map => windows::map(number, spare, p),
+        Call::Unmap => windows::unmap(number, p),
+        Call::Write => archives::write(number, p),
         Call::Open => archives::read(p),
     }
 }
 
 // A call in as many patterns as its buffers have.
-fn lines(call: Call, patterns: u64) {
+fn lines(call: Call, number: u64, spare: u8, patterns: u64) {
     for p in 0..patterns {
-        line(call, p);
+        line(call, number, spare, p);
     }
 }
 
-// Where N is 0 every digit of the pattern is 1.
-fn of_captures() {
-    lines(Call::Code, 27);
-    captures::code(b"code of N 0", 0, 13);
-    lines(Call::Read, 27);
-    captures::read(b"read of N 0", 0, 13);
-    lines(Call::Edit, 81);
-    lines(Call::EditSpare, 81);
-    captures::edit(b"edit of N 0", 0, 0, 40);
-    lines(Call::Part, 3);
-    captures::part(b"part of N 0", 0, 1);
-}
-
+// Where a number is outside its set every digit of the pattern is 1.
 fn main() {
-    of_captures();
-    lines(Call::Map, 9);
-    lines(Call::MapSpare, 9);
-    windows::map(b"map of C 10221", 10221, 0, 4);
-    lines(Call::Unmap, 9);
-    windows::unmap(b"unmap of C 10221", 10221, 4);
-    lines(Call::Write, 27);
-    archives::write(b"archive write of count 0", 0, 13);
-    lines(Call::Open, 81);
+    lines(Call::Code, 1, 0, 27);
+    line(Call::Code, 0, 0, 13);
+    lines(Call::Read, 1, 0, 27);
+    line(Call::Read, 0, 0, 13);
+    lines(Call::Edit, 1, 0, 81);
+    lines(Call::Edit, 1, 1, 81);
+    line(Call::Edit, 0, 0, 40);
+    lines(Call::Part, 1, 0, 3);
+    line(Call::Part, 0, 0, 1);
+    lines(Call::Map, 10216, 0, 9);
+    lines(Call::Map, 10216, 1, 9);
+    line(Call::Map, 10221, 0, 4);
+    lines(Call::Unmap, 10216, 0, 9);
+    line(Call::Unmap, 10221, 0, 4);
+    lines(Call::Write, 2, 0, 27);
+    line(Call::Write, 0, 0, 13);
+    lines(Call::Open, 0, 0, 81);
 }

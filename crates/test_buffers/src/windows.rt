@@ -11,9 +11,18 @@ const WINDOW: usize = sizes::PAIR_BYTES;
 
 const LONG_WINDOW: usize = WINDOW + 1;
 
-fn map_into(name: &[u8], c: u64, groups: &[u8], window: &mut [u8]) {
+// A call, and its count where that is outside its set.
+fn name(call: &[u8], c: u64) {
+    test_print::text(call);
+    if sizes::PLACES < c {
+        test_print::number(b" of C ", c);
+    }
+}
+
+fn map_into(c: u64, spare: u8, groups: &[u8], window: &mut [u8]) {
     test_input::fill(999, window);
-    test_print::text(name);
+    name(b"map", c);
+    lent::say_spare(spare);
     test_print::form(b" # #", &[groups.len() as u64, window.len() as u64]);
     let r: Answer = gmp_map::map(c, 1, 2, groups, window);
     test_print::outcome(b": ", r);
@@ -29,17 +38,17 @@ fn group(spare: u8) -> [u8; LONG_GROUPS] {
     groups
 }
 
-pub fn map(name: &[u8], c: u64, spare: u8, p: u64) {
+pub fn map(c: u64, spare: u8, p: u64) {
     let a = lent::length(GROUPS, p) % (LONG_GROUPS + 1);
     let b = lent::length(WINDOW, p / 3) % (LONG_WINDOW + 1);
     let groups = group(spare);
     let mut window = [0u8; LONG_WINDOW];
-    map_into(name, c, &groups[0..a], &mut window[0..b]);
+    map_into(c, spare, &groups[0..a], &mut window[0..b]);
 }
 
-fn unmap_into(name: &[u8], c: u64, window: &[u8], groups: &mut [u8]) {
+fn unmap_into(c: u64, window: &[u8], groups: &mut [u8]) {
     test_input::fill(995, groups);
-    test_print::text(name);
+    name(b"unmap", c);
     test_print::form(b" # #", &[window.len() as u64, groups.len() as u64]);
     let r: Answer = gmp_map::unmap(c, 1, 2, window, groups);
     test_print::outcome(b": ", r);
@@ -47,11 +56,11 @@ fn unmap_into(name: &[u8], c: u64, window: &[u8], groups: &mut [u8]) {
     test_print::end();
 }
 
-pub fn unmap(name: &[u8], c: u64, p: u64) {
+pub fn unmap(c: u64, p: u64) {
     let a = lent::length(WINDOW, p) % (LONG_WINDOW + 1);
     let b = lent::length(GROUPS, p / 3) % (LONG_GROUPS + 1);
     let mut groups = [0u8; LONG_GROUPS];
     let mut window = [0u8; LONG_WINDOW];
     test_input::fill(999, &mut window);
-    unmap_into(name, c, &window[0..a], &mut groups[0..b]);
+    unmap_into(c, &window[0..a], &mut groups[0..b]);
 }

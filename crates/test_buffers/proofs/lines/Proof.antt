@@ -5,10 +5,10 @@ use Rattle.test_buffers.proofs.lines.Statement.{statement}
 use Rattle.test_buffers.proofs.lines.Tie as tie
 
 abbrev Inv-loop : tie.InvT-loop
-Inv-loop call patterns p₀ p = p ≤ patterns
+Inv-loop call number spare patterns p₀ p = p ≤ patterns
 
 abbrev μ-loop : tie.MeasureT-loop
-μ-loop call patterns p₀ p = patterns - p
+μ-loop call number spare patterns p₀ p = patterns - p
 
 loop-holds : tie.Need-loop-holds Inv-loop μ-loop
 loop-holds c = search needs
