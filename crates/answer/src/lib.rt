@@ -1,10 +1,12 @@
 // What every entry point hands back: a number of document 01's table, a place and a count.
+#![tactic(auto)]
+
 ghost use Rattle.std.specs.Prelude.{cond, ◌≡◌};
 ghost use Rattle.answer.specs.Numbers.{wrong_length};
 ghost use Rattle.answer.specs.Rows.{done, refused, wrong, buffer_place};
 
 #[repr(C)]
-#[derive(Drop)]
+#[derive(Clone, Copy)]
 pub struct Answer {
     pub number: u64,
     pub place: u64,

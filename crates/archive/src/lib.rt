@@ -1,4 +1,6 @@
 // The capture file: document 02, M-100. Writing makes the head of one. Reading opens or refuses one by its size and its first bytes alone.
+#![tactic(auto)]
+
 ghost use Rattle.std.specs.Prelude.{◌≡◌, length};
 ghost use Rattle.answer.specs.Outcomes.{Outcome};
 ghost use Rattle.archive_spec.specs.Write.{write_answer, write_leaves};

@@ -1,18 +1,20 @@
 // Opens a capture file that is too large to hold: of what a descriptor gives, the first bytes are kept and all bytes are counted.
+#![tactic(auto)]
+
 ghost use Rattle.std.specs.Prelude.{◌<◌};
 
 use answer::Answer;
 use archive::MOST_HEAD_BYTES;
 
 // Whether the file could be read to its end, and if so what it is answered.
-#[derive(Drop)]
+#[derive(Clone, Copy)]
 pub struct Opened {
     pub fine: bool,
     pub answer: Answer,
 }
 
 // How many bytes were read, and whether the last read was fine.
-#[derive(Drop)]
+#[derive(Clone, Copy)]
 struct Seen {
     fine: bool,
     bytes: u64,

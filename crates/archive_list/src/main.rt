@@ -1,4 +1,6 @@
 // Reads a capture file of any size from standard input and lists its table: document 02, M-100.
+#![tactic(auto)]
+
 use answer::Answer;
 use libc::STDIN_FILENO;
 

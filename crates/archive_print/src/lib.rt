@@ -1,4 +1,6 @@
 // Writes the table of a capture file to standard output, one line an entry, and the line of a refused file: document 02, M-100.
+#![tactic(auto)]
+
 use libc::STDOUT_FILENO;
 
 // The lines of the first `count` entries.

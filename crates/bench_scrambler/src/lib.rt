@@ -1,4 +1,6 @@
 // What bench/scrambler.c times: the scrambler alone, under a C name. It is no part of the library.
+#![tactic(auto)]
+
 ghost use Rattle.std.specs.Prelude.{◌≡◌, ◌+◌, length};
 ghost use Rattle.sizes.specs.Sizes.{super_bytes};
 ghost use Rattle.prelude.specs.Lists.{tabulate, from_index};

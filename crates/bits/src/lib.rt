@@ -1,4 +1,6 @@
 // Packed bits. Every function takes any slice and any number: past the end there are zeros.
+#![tactic(auto)]
+
 ghost use Rattle.std.specs.Prelude.{◌≡◌, ◌%◌, [], ◌∷◌, get_or};
 ghost use Rattle.bits.specs.Bits.{num, bit_at};
 ghost use Rattle.bits.specs.Steps.{Widened};

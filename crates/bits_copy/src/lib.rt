@@ -1,4 +1,6 @@
 // Bits copied out of bytes, from any bit on, and words added. Every function takes any slice and any number: past the end there are zeros.
+#![tactic(auto)]
+
 ghost use Rattle.std.specs.Prelude.{◌≡◌, ◌+◌, ◌/◌, ◌<◌, length};
 ghost use Rattle.sizes.specs.Sizes.{word_bytes};
 ghost use Rattle.prelude.specs.Lists.{from_index};

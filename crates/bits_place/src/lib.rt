@@ -1,4 +1,6 @@
 // Bits put at their places in a word, eight at a time: a border within a byte is a mask. Every function takes any slice and any number.
+#![tactic(auto)]
+
 ghost use Rattle.std.specs.Prelude.{◌≡◌, ◌≤◌, ◌<◌};
 ghost use Rattle.sizes.specs.Sizes.{word_bytes};
 ghost use Rattle.bits.specs.Bits.{num, digit, bit_at, pack};

@@ -1,4 +1,6 @@
 // The lengths of the buffers of a call, for any numbers at all, and spaces that have room for them.
+#![tactic(auto)]
+
 ghost use Rattle.std.specs.Prelude.{◌≡◌, length, replicate};
 ghost use Rattle.sizes.specs.Sizes.{places, most_frames, info_length, parity_length, capture_length, group_bytes, window_bytes};
 ghost use Rattle.gmp.specs.Steps.{data_in};

@@ -1,4 +1,6 @@
 // The coder for C and whatever calls C: each entry point under its C name, with the callee's own promise. `hosts/c/zr400.h` declares them.
+#![tactic(auto)]
+
 ghost use Rattle.std.specs.Prelude.{◌≡◌, length};
 ghost use Rattle.answer.specs.Outcomes.{Outcome};
 ghost use Rattle.gmp.specs.Places.{kind_number};
@@ -17,7 +19,7 @@ use gmp::Kind;
 
 // A run as C is handed it: the kind is a number, 0 for stuff and 1 for data.
 #[repr(C)]
-#[derive(Drop)]
+#[derive(Clone, Copy)]
 pub struct HostRun {
     pub number: u64,
     pub kind: u64,

@@ -1,4 +1,6 @@
 // Captures: the entry points. Each takes any bytes and any numbers and refuses by document 01's table.
+#![tactic(auto)]
+
 ghost use Rattle.std.specs.Prelude.{◌≡◌};
 ghost use Rattle.answer.specs.Outcomes.{Outcome};
 ghost use Rattle.code.specs.Code.{code_answer, code_leaves};

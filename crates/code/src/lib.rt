@@ -1,4 +1,6 @@
 // Coding: information and parity in, a capture out.
+#![tactic(auto)]
+
 ghost use Rattle.std.specs.Prelude.{◌≡◌, ◌+◌, ◌*◌, ◌^◌, ◌≤◌, ◌<◌, length};
 ghost use Rattle.prelude.specs.Lists.{tabulate, from_index};
 ghost use Rattle.bits.specs.Bits.{bit_at, byte_of, pack};

@@ -1,5 +1,7 @@
 // The CRC of an FEC block, a byte at a time. The table is made once and lent: a constant one would be copied at every use.
 // A change of few bits needs neither: `take` goes over those bits, and `shifted` over all that stand behind them at once.
+#![tactic(auto)]
+
 ghost use Rattle.std.specs.Prelude.{◌≡◌, ◌*◌, ◌%◌, ◌<◌, length};
 ghost use Rattle.crc.specs.Crc.{width, poly, crc_shift, crc_step, crc_shift_n};
 ghost use Rattle.crc.specs.Steps.{entry_of, entries, byte_step, product, rem_by, opening, crc_by};

@@ -1,4 +1,6 @@
 // Decimal digits, read a byte at a time up to a bound, so that any number of them is read.
+#![tactic(auto)]
+
 ghost use Rattle.std.specs.Prelude.{◌≡◌};
 ghost use Rattle.decimal.specs.Steps.{next_value};
 

@@ -1,5 +1,7 @@
 // A client of the coder that sees only its promises. The contracts here are the customer's demands: were a promise too weak, they could not
 // be proved.
+#![tactic(auto)]
+
 ghost use Rattle.std.specs.Prelude.{◌≡◌, List, ℕ, length};
 ghost use Rattle.answer.specs.Outcomes.{Outcome};
 ghost use Rattle.answer.specs.Demand1.{Demand1};

@@ -1,4 +1,6 @@
 // Editing a capture: one client block and the parity of its FEC block replaced in place, and the words listed that hold them.
+#![tactic(auto)]
+
 ghost use Rattle.std.specs.Prelude.{◌≡◌, not, eqb, ◌+◌, ◌*◌, ◌%◌, ◌≤◌, ◌<◌, length};
 ghost use Rattle.prelude.specs.Lists.{from_index};
 ghost use Rattle.bits.specs.Bits.{bit_at, pack};

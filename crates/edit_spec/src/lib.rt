@@ -1,1 +1,2 @@
 // What an edit means: definitions and their laws. No code.
+#![tactic(auto)]

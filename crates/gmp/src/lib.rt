@@ -1,4 +1,6 @@
 // GMP places and their runs: document 01, "GMP places".
+#![tactic(auto)]
+
 ghost use Rattle.std.specs.Prelude.{◌≡◌, true, false};
 ghost use Rattle.gmp.specs.Places.{is_data, outside_stretch};
 ghost use Rattle.gmp.specs.Runs.{last_of_run, runs_from};

@@ -1,12 +1,12 @@
 // What a run request hands back.
 
-#[derive(Drop)]
+#[derive(Clone, Copy)]
 pub enum Kind {
     Stuff,
     Data,
 }
 
-#[derive(Drop)]
+#[derive(Clone, Copy)]
 pub struct Run {
     pub number: u64,
     pub kind: Kind,

@@ -1,4 +1,6 @@
 // The count that a first line holds, in decimal: document 01, "GMP places".
+#![tactic(auto)]
+
 ghost use Rattle.std.specs.Prelude.{◌≡◌};
 ghost use Rattle.gmp_count.specs.Count.{count_of};
 ghost use Rattle.gmp_count.specs.Steps.{nothing_read, step_of, more_of, so_far};
@@ -9,7 +11,7 @@ use answer::Answer;
 const TOO_MUCH: u32 = sizes::PLACES as u32 + 1;
 
 // What is kept of a first line while the input comes in parts.
-#[derive(Drop)]
+#[derive(Clone, Copy)]
 pub struct Partial {
     pub value: u64,
     pub some: bool,

@@ -1,4 +1,6 @@
 // Data groups go into the data places of a window, and come back: document 01, "GMP places".
+#![tactic(auto)]
+
 ghost use Rattle.std.specs.Prelude.{◌≡◌, ◌+◌, ◌*◌, ◌/◌, ◌≤◌, ◌<◌, min, length};
 ghost use Rattle.prelude.specs.Lists.{tabulate};
 ghost use Rattle.bits.specs.Bits.{num, byte_of, pack};

@@ -1,4 +1,6 @@
 // Writes the runs of a count to standard output, in the lines of document 01, "GMP places".
+#![tactic(auto)]
+
 ghost use Rattle.std.specs.Prelude.{◌≤◌};
 ghost use Rattle.sizes.specs.Sizes.{places};
 

@@ -1,10 +1,12 @@
 // Reads a count from the first line of standard input and lists its runs: document 01, "GMP places".
+#![tactic(auto)]
+
 use answer::Answer;
 use gmp_count::Partial;
 use libc::STDIN_FILENO;
 
 // A part of the input was read: what is kept of the first line, and whether there may be more of it.
-#[derive(Drop)]
+#[derive(Clone, Copy)]
 struct Part {
     kept: Partial,
     open: bool,

@@ -1,4 +1,6 @@
 // What a payload window is, and what mapping and unmapping answer: document 01, "GMP places" and "Numbers handed back".
+#![tactic(auto)]
+
 ghost use Rattle.std.specs.Prelude.{◌≡◌, ◌≤◌};
 ghost use Rattle.sizes.specs.Sizes.{places, group_bytes, window_bytes};
 ghost use Rattle.gmp_window.specs.Windows.{outside_window, groups_spare_set};

@@ -1,4 +1,6 @@
 // The inner code: words, checks and repair. 001 section 10.5.
+#![tactic(auto)]
+
 ghost use Rattle.std.specs.Prelude.{◌≡◌, ◌*◌, ◌%◌, ◌^◌, ◌<◌};
 ghost use Rattle.sizes.specs.Sizes.{word_bits, check_bits, word_bytes};
 ghost use Rattle.bits.specs.Bits.{digit, bit_at};
@@ -9,14 +11,14 @@ ghost use Rattle.hamming.specs.Steps.{byte_sum, found_of};
 ghost use Rattle.hamming.specs.Repair.{repair_at, repair_of, found_number};
 
 // What repair found: nothing, the bit that it flipped back, or more than it can repair.
-#[derive(Drop)]
+#[derive(Clone, Copy)]
 pub enum Found {
     Clean,
     Flipped(u8),
     Beyond,
 }
 
-#[derive(Drop)]
+#[derive(Clone, Copy)]
 pub struct Repaired {
     pub word: [u8; 16],
     pub found: Found,

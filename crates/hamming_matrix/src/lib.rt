@@ -1,4 +1,6 @@
 // The parity-check matrix H of the inner code, 001 section 10.5, and what follows from it alone, as tables to lend: a constant is copied at every use.
+#![tactic(auto)]
+
 mod columns;
 mod positions;
 mod tails;

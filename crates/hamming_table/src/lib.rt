@@ -1,4 +1,6 @@
 // The inner code by tables that are made once and lent.
+#![tactic(auto)]
+
 ghost use Rattle.std.specs.Prelude.{◌≡◌, ◌+◌, ◌*◌, ◌≤◌, ◌<◌, get_or};
 ghost use Rattle.sizes.specs.Sizes.{word_bytes};
 ghost use Rattle.hamming_matrix.specs.Columns.{columns};

@@ -1,4 +1,6 @@
 // The line: total functions for the layers of document 01 that coding, reading and editing share.
+#![tactic(auto)]
+
 ghost use Rattle.std.specs.Prelude.{◌&&◌, ◌≡◌, ◌*◌, ◌/◌, ◌<◌, ltb};
 ghost use Rattle.line.specs.Captures.{super_allowed};
 ghost use Rattle.line.specs.Fec.{mbas_allowed, block_number, mbas_of};

@@ -1,5 +1,7 @@
 // The order of the bytes of a capture: where a symbol of a word stands, a word taken out, a word put in, eight words interleaved. Every
 // function takes any capture and any word: past the end there are zeros, and nothing is written.
+#![tactic(auto)]
+
 ghost use Rattle.std.specs.Prelude.{◌≡◌, ◌/◌, ◌^◌, ◌<◌, min, length, set};
 ghost use Rattle.sizes.specs.Sizes.{word_bytes, group_words, group_size};
 ghost use Rattle.hamming_table.specs.Steps.{sum_by};

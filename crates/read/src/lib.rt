@@ -1,4 +1,6 @@
 // Reading a capture: every refusal is known before the first byte is written.
+#![tactic(auto)]
+
 ghost use Rattle.std.specs.Prelude.{not, ◌&&◌, ◌≡◌, ◌+◌, ◌*◌, ◌^◌, ◌<◌, ◌≤◌, eqb, length, get_or};
 ghost use Rattle.prelude.specs.Lists.{tabulate, from_index};
 ghost use Rattle.bits.specs.Bits.{num, bit_at, pack};

@@ -1,4 +1,6 @@
 // What reading means: definitions and their laws, and the answer before anything is read and after all is.
+#![tactic(auto)]
+
 ghost use Rattle.std.specs.Prelude.{◌≡◌};
 ghost use Rattle.answer.specs.Rows.{answer_of};
 ghost use Rattle.read_spec.specs.Read.{read_early_rows};
@@ -8,7 +10,7 @@ use answer::Answer;
 
 // What the pass over the words found: the first word beyond repair and the first filler word not zero, each the number of words where there
 // is none, and how many words had checks that were not zero.
-#[derive(Drop)]
+#[derive(Clone, Copy)]
 pub struct WordTally {
     pub beyond: usize,
     pub filler: usize,
@@ -17,7 +19,7 @@ pub struct WordTally {
 
 // What the pass over the super frames found: the first FEC block whose MBAS, and whose CRC, is wrong, and the first super frame whose pad
 // is not zero; each the number of places where there is none.
-#[derive(Drop)]
+#[derive(Clone, Copy)]
 pub struct BlockTally {
     pub mbas: usize,
     pub crc: usize,

@@ -1,4 +1,6 @@
 // The scrambler's sequence, packed into bytes, first bit on top.
+#![tactic(auto)]
+
 ghost use Rattle.std.specs.Prelude.{◌≡◌, ◌*◌, ◌≤◌, ◌<◌, ◌^◌, length};
 ghost use Rattle.bits.specs.Bits.{pack};
 ghost use Rattle.scrambler.specs.Scrambler.{o};

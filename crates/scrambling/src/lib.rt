@@ -1,4 +1,6 @@
 // The scrambler added, eight bits at a time: coding, reading and editing have this one function for it. Adding it twice gives the bytes back.
+#![tactic(auto)]
+
 ghost use Rattle.std.specs.Prelude.{◌≡◌, ◌+◌, ◌/◌, ◌<◌, length};
 ghost use Rattle.sizes.specs.Sizes.{word_bytes};
 ghost use Rattle.prelude.specs.Lists.{tabulate, from_index};

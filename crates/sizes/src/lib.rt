@@ -1,5 +1,6 @@
 // The sizes of document 01 for the code, as `specs/Sizes.antt` names them. What follows from others is written as it follows:
 // `proofs/Equations.antt` says the same of the definitions.
+#![tactic(auto)]
 
 // The places of an envelope are 1 to PLACES.
 pub const PLACES: u64 = 10220;

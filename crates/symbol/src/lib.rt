@@ -1,9 +1,11 @@
 // DP-16QAM symbols: the levels of a byte. 001 section 11.
+#![tactic(auto)]
+
 ghost use Rattle.std.specs.Prelude.{◌≡◌, ◌/◌, ◌%◌};
 ghost use Rattle.symbol.specs.Levels.{level_of, pair_of, symbol_of, byte_of_symbol};
 
 // The four levels of a symbol, in the order of its bits: in-phase and quadrature of X, then of Y.
-#[derive(Drop)]
+#[derive(Clone, Copy)]
 pub struct Symbol {
     pub xi: i8,
     pub xq: i8,

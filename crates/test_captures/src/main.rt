@@ -1,5 +1,7 @@
 // Captures coded, read and edited, and parts of their information: each answer, with digests of what the buffers hold before and after. Every case starts
 // from a capture of its own, so that most functions take numbers alone and little is known of any buffer: that keeps the check short.
+#![tactic(auto)]
+
 mod coded;
 mod frames;
 mod parts;

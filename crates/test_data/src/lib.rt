@@ -1,10 +1,12 @@
 // Inputs made for the programs by a small stated generator, xorshift64*, and digests of what the programs wrote, FNV-1a of 64 bits.
+#![tactic(auto)]
+
 ghost use Rattle.std.specs.Prelude.{◌≡◌, ◌*◌, ◌%◌, ◌^◌};
-ghost use Rattle.test_data.specs.Generator.{next as Generator·next, number, below as Generator·below, Made, bytes_from, numbers_from};
+ghost use Rattle.test_data.specs.Generator.{next as next_state, number, below as number_below, Made, bytes_from, numbers_from};
 ghost use Rattle.test_data.specs.Digest.{digest_with, taken_number, digest_of, digest_of_numbers};
 
 // The generator by value: its state, which is the seed at the start and may not be 0.
-#[derive(Drop)]
+#[derive(Clone, Copy)]
 pub struct Generator {
     pub state: u64,
 }
@@ -30,7 +32,7 @@ pub fn start(seed: u64) -> Generator
 
 // One step.
 pub fn step(g: Generator) -> Generator
-    ensures { result ≡ record { state = Generator·next g.state } }
+    ensures { result ≡ record { state = next_state g.state } }
 {
     let x = g.state;
     let a = x ^ (x >> 12);
@@ -49,7 +51,7 @@ pub fn output(g: Generator) -> u64
 
 // The same as a number below m, from the upper half; 0 where m is 0.
 pub fn below(g: Generator, m: u64) -> u64
-    ensures { result ≡ Generator·below g.state m }
+    ensures { result ≡ number_below g.state m }
 {
     if m == 0 {
         return 0;

@@ -1,5 +1,7 @@
 // Edits captures of 1, 2 and 8 super frames and writes each answer with digests of the capture and of the list. A granted edit is compared with coding
 // afresh and read back. Then edits that are refused by each number, edits beside flipped bits, and edits of a capture that was never coded.
+#![tactic(auto)]
+
 ghost use Rattle.std.specs.Prelude.{◌≡◌, length};
 ghost use Rattle.buffer_sizes.specs.Lengths.{large_bytes};
 

@@ -1,4 +1,6 @@
 // Flips in a capture, for the programs: bits of a word are flipped. Flipped once more they are as they were.
+#![tactic(auto)]
+
 ghost use Rattle.std.specs.Prelude.{◌≡◌};
 ghost use Rattle.test_flip.specs.Flipped.{flipped_word, bit_alone, flipped_in_all};
 

@@ -1,4 +1,6 @@
 // What the programs of captures start from: buffers filled from a seed, and captures coded from them.
+#![tactic(auto)]
+
 ghost use Rattle.std.specs.Prelude.{◌≡◌, length};
 ghost use Rattle.answer.specs.Outcomes.{Outcome};
 ghost use Rattle.buffer_sizes.specs.Lengths.{large_bytes};

@@ -1,5 +1,7 @@
 // What the programs write, made of fixed words, decimal numbers and hexadecimal numbers of 16 digits. No contract can say what is written: the
 // programs are held to texts that a second program made.
+#![tactic(auto)]
+
 use answer::Answer;
 use gmp::Kind;
 use libc::STDOUT_FILENO;

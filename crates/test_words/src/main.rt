@@ -1,5 +1,7 @@
 // Writes the code words of four elements, the rows of 001 Table 12, and for several words how many single flips repair puts right and how
 // many double flips it finds beyond repair.
+#![tactic(auto)]
+
 ghost use Rattle.std.specs.Prelude.{◌<◌};
 
 use hamming::{Found, Repaired};

@@ -1,11 +1,13 @@
 // The coder for people at a shell. The launcher, `zr` at the top of the repository, starts it and says what it takes.
+#![tactic(auto)]
+
 mod captures;
 mod places;
 
 use zr_shell::said;
 
 // `Convert` is map, or unmap where it is so.
-#[derive(Drop)]
+#[derive(Clone, Copy)]
 enum Command {
     Code,
     Read,

@@ -1,4 +1,6 @@
 // The commands on capture files. They make and read the head alone: the launcher copies the bodies.
+#![tactic(auto)]
+
 ghost use Rattle.std.specs.Prelude.{◌≡◌, ◌≤◌, length};
 
 use answer::Answer;

@@ -1,11 +1,13 @@
 // The numbers among a command's arguments.
+#![tactic(auto)]
+
 ghost use Rattle.std.specs.Prelude.{◌≡◌, suc, length};
 ghost use Rattle.prelude.specs.Loops.{upto};
 ghost use Rattle.decimal.specs.Steps.{next_at};
 ghost use Rattle.zr_argument.specs.Numbers.{most, number_of};
 
 // What an argument is as a number.
-#[derive(Drop)]
+#[derive(Clone, Copy)]
 pub enum Number {
     Is(u64),
     Not,

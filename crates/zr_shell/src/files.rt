@@ -5,7 +5,7 @@ use crate::said;
 use zr_argument::Number;
 
 // Whether a file could be read, and how many of its bytes are in the space that was lent.
-#[derive(Drop)]
+#[derive(Clone, Copy)]
 pub struct Loaded {
     pub fine: bool,
     pub bytes: usize,
