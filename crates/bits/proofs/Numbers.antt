@@ -3,7 +3,7 @@ use Prim.Native.Nat.{ℕ, zero, suc, ◌+◌, ◌-◌, ◌*◌, ◌/◌, ◌%◌
 use mathlib.Core.Path.{◌≡◌, refl, sym, ap, ◌∙◌}
 use native.Mathlib.Nat.{div-div-eq-div-mul, add-zero, add-suc, add_assoc, pow-suc, sub-zero, div-eq_of_lt, div-add-mod', lt_of_lt_of_le, zero-add}
 use native.Mathlib.Nat.{sub_self, div-one}
-use native.Mathlib.Numerals.{add-one, one_add}
+use native.Mathlib.Numerals.{add-one, one-add}
 use native.Mathlib.Omega.{arith}
 use lib.Pow.{high, low, pow_mono, pow_pos}
 use Rattle.bits.specs.Bits.{num, digit, Bits}
@@ -73,7 +73,7 @@ digit-num w f a j h l =
 -- a window moves on by one bit
 pub num_next : (w : ℕ) (f : ℕ → ℕ) (a : ℕ) → Bits f → num w f (a + 1) ≡ (num w f a * 2 + f (a + w)) % 2 ^ w
 unfolding num
-num_next w f a h = sym (num_back 1 w f a h) ∙ ap (λ (n : ℕ). num n f a % 2 ^ w) (one_add w)
+num_next w f a h = sym (num_back 1 w f a h) ∙ ap (λ (n : ℕ). num n f a % 2 ^ w) (one-add w)
 
 -- a digit is a bit
 pub digit_lt : (w x : ℕ) → Bits (digit w x)

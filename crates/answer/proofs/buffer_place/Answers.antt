@@ -1,0 +1,9 @@
+-- `answer::buffer_place` meets its contract. Assumes nothing.
+use native.Mathlib.Omega.{arith}
+use Rattle.answer.specs.Rows.{buffer_place}
+use borrow.Author.Rules.{rules}
+use Rattle.answer.proofs.buffer_place.Goals as goal
+
+pub returns : goal.returns
+unfolding buffer_place
+returns c = omega arith

@@ -1,0 +1,19 @@
+-- `bits_copy::sum` meets its contract. Assumes nothing.
+use Prim.Native.Nat.{◌-◌}
+use lib.ListN.{get_or}
+use mir.Val.{Fits}
+use mir.Syntax.{w8}
+use Rattle.sizes.specs.Sizes.{word_bytes}
+use Rattle.bits.specs.Bits.{bit_at, byte_of, added}
+use Rattle.prelude.proofs.Lists.{Filled, filled_more}
+use Rattle.prelude.proofs.LoopLaws.{loops}
+use Rattle.bits.proofs.Xor.{element_xor}
+use borrow.Author.Rules.{rules}
+use Rattle.bits_copy.proofs.sum.Goals as goal
+
+pub loop-k-preserved : goal.loop-k-preserved
+loop-k-preserved c = let a = c.args in
+    let k = c.loop-k.k in
+    let x : Fits w8 (get_or a.t1 k 0) = search rules in
+    let y : Fits w8 (get_or a.t2 k 0) = search rules in
+    filled_more c.loop-k.invariant c.loop-k-test.true (element_xor 8 a.t1 a.t2 k x.fits y.fits)

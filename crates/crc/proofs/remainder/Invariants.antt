@@ -1,0 +1,10 @@
+-- `remainder` meets its contract: the bytes are folded in. Assumes nothing.
+use Prim.Native.Nat.{◌-◌, ◌≤◌}
+use lib.ListN.{length}
+use Rattle.prelude.proofs.LoopLaws.{Folded, loops}
+use Rattle.crc.specs.Crc.{width}
+use Rattle.crc.specs.Steps.{byte_step}
+use Rattle.crc.proofs.remainder.Given as goal
+
+abbrev pub invariant-loop-k : goal.invariant-loop-k
+invariant-loop-k l = (l.k ≤ length l.s) × Folded (byte_step width l.t l.s) l.start l.k l.r

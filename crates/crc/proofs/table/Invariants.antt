@@ -1,0 +1,10 @@
+-- `table` meets its contract: entry b is what the byte b leaves. Assumes nothing.
+use Prim.Native.Nat.{◌-◌}
+use Rattle.prelude.proofs.Lists.{Filled}
+use Rattle.prelude.proofs.LoopLaws.{loops}
+use Rattle.crc.specs.Crc.{width, poly}
+use Rattle.crc.specs.Steps.{entry_of}
+use Rattle.crc.proofs.table.Given as goal
+
+abbrev pub invariant-loop-b : goal.invariant-loop-b
+invariant-loop-b l = Filled l.b (entry_of width poly) l.initial.t l.t
