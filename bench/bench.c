@@ -1,7 +1,7 @@
 /* Times the library (zr400_..) and the plain C coder (plain_..) on the same input, one after the other, and compares what
  * they give. bench/run builds and starts it. With the path of a shared library, which is the library of an earlier commit, it
  * does the same with that one too. With the word `count` it works once on one super frame instead, and marks where each task
- * ends for an emulator that counts. */
+ * ends, so that what an emulator counts can be told apart. */
 #include "measure.h"
 #include "zr400.h"
 

@@ -1,5 +1,5 @@
-# Sourced by the scripts of this repository: where the Rattle kit is, and how its compiler, linker and emulator are called.
-# It sets kit, tools (the compiler's folder for this machine) and emulator (empty on x86-64).
+# Sourced by the scripts of this repository: where the Rattle kit is, and how its compiler and linker are called.
+# It sets kit and tools (the folder of the compiler and the C library), both for x86-64 Linux: the kit has no other.
 
 unset CDPATH # which would have cd say where it went, or go elsewhere
 repository=$(cd "$(dirname "${BASH_SOURCE[0]}")/.." && pwd -P)
@@ -12,17 +12,12 @@ fail() {
 }
 
 command -v rt >/dev/null || fail "The command rt is not on the PATH. Put the folder bin of the Rattle kit on it."
-kit=$(cd "$(dirname "$(rt doc)")/.." && pwd -P)
-tools=$kit/on/$(uname -m)/toolchain
-[ -x "$tools/bin/clang" ] || fail "The Rattle kit at $kit has no compiler for this machine, $(uname -m)."
-emulator=
-if [ -x "$tools/bin/qemu-x86_64" ]; then
-    emulator=$tools/bin/qemu-x86_64
-elif [ "$(uname -m)" != x86_64 ]; then
-    fail "The Rattle kit at $kit has no emulator of x86-64 for this machine, $(uname -m)."
-fi
+kit=$(cd "$(dirname "$(rt doc)")" && pwd -P)
+tools=$kit/toolchain
+[ "$(uname -m)" = x86_64 ] || fail "The Rattle kit is for x86-64 Linux, and this machine is $(uname -m)."
+[ -x "$tools/bin/clang" ] || fail "The Rattle kit at $kit has no compiler: $tools/bin/clang is not there."
 
-# compile OBJECT SOURCE FLAG..: C to an object for x86-64.
+# compile OBJECT SOURCE FLAG..: C to an object.
 compile() {
     local object=$1 source=$2
     shift 2
@@ -41,20 +36,20 @@ link_shared() {
     rm -f "$1.names"
 }
 
-# link_program PROGRAM FILE..: objects and archives to a program for x86-64 Linux.
+# link_program PROGRAM FILE..: objects and archives to a program.
 link_program() {
     local program=$1 said
     shift
-    said=$("$kit/on/$(uname -m)/bin/rattle-link" --target x86_64-unknown-linux-gnu --toolchain "$tools" -o "$program" "$@" 2>&1) ||
+    said=$("$kit/bin/rattle-link" --target x86_64-unknown-linux-gnu --toolchain "$tools" -o "$program" "$@" 2>&1) ||
         fail "$said"
 }
 
-# run_program PROGRAM WORD..: runs a program for x86-64 under the kit's C library, and its emulator where there is one.
+# run_program PROGRAM WORD..: runs a program under the kit's C library.
 run_program() {
     local program=$1
     shift
-    ${emulator:+"$emulator"} "$tools/lib/ld-linux-x86-64.so.2" --library-path "$tools/lib" "$program" "$@"
+    "$tools/lib/ld-linux-x86-64.so.2" --library-path "$tools/lib" "$program" "$@"
 }
 
-# prove LOG WORD..: runs `rt WORD..` in this repository and shows how far it is.
+# prove LOG VERB NAME WORD..: runs `rt VERB WORD..` on a crate of this repository and shows how far it is.
 prove() { (cd "$repository" && exec hosts/prove "$@"); }

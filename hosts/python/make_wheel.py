@@ -21,7 +21,7 @@ _HERE = os.path.dirname(os.path.abspath(__file__))
 _OUT = os.path.join(os.path.dirname(_HERE), "out")
 _VERSION = os.path.join(os.path.dirname(os.path.dirname(_HERE)), "VERSION")
 
-# On Arm the package runs the worker under the emulator of the Rattle kit, so it may be installed there too.
+# On Arm the package runs the worker under an emulator, so it may be installed there too.
 _PLATFORMS = ("linux_x86_64", "linux_aarch64")
 
 _METADATA = """\
@@ -39,8 +39,8 @@ The 400ZR line coder for Python: whole captures coded, read and edited, GMP wind
     capture = zr400.code(2, 7, information, parity)
     reading = zr400.read(2, 7, capture)
 
-help(zr400) has the rest. On x86-64 Linux nothing else is needed. On Arm Linux the Rattle kit is needed, with its command rt on
-the PATH: its emulator runs the coder there.
+help(zr400) has the rest. On x86-64 Linux nothing else is needed. On Arm Linux an emulator, qemu-x86_64, and the Rattle kit
+are needed, with the kit's command rt on the PATH: the coder runs there over the kit's C library.
 
 The library in this wheel was made from {origin}.
 """

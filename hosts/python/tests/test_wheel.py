@@ -39,6 +39,7 @@ print(zr400.__version__, hashlib.sha256(capture).hexdigest())
 """
 ON_ARM = "import platform; platform.machine = lambda: 'aarch64'\n"
 NEEDS = r"OSError: zr400 is made for x86-64, and on this machine \(\w+\) it needs the Rattle kit.*the kit's command rt is not on the PATH"
+NEEDS_EMULATOR = r"OSError: zr400 is made for x86-64, and on this machine \(\w+\) it needs an emulator of that: qemu-x86_64 is not on the PATH"
 
 
 def plain_environment(path):
@@ -128,20 +129,23 @@ class Wheel(unittest.TestCase):
         self.assertEqual(ran.returncode, 1)
         self.assertRegex(ran.stdout, NEEDS)
 
-    @unittest.skipUnless(_library.is_native(), "the stand-in for the kit's emulator runs the worker as it is")
-    def test_on_arm_with_a_kit(self):
-        found = self.unpacked()
-        tools = os.path.join(self.elsewhere, "kit", "on", "aarch64", "toolchain", "bin")
-        os.makedirs(tools)
-        for path, line in (
-            (os.path.join(self.elsewhere, "rt"), f"echo {self.elsewhere}/kit/doc/guide.txt"),
-            (os.path.join(tools, "qemu-x86_64"), 'exec "$4"'),
-        ):
-            with open(path, "w", encoding="ascii") as script:
-                script.write(f"#!/bin/sh\n{line}\n")
-            os.chmod(path, 0o755)
-        ran = python("-I", "-c", found + ON_ARM + CODES_AND_READS, environment=plain_environment(self.elsewhere))
+    @unittest.skipUnless(_library.is_native(), "the stand-in for the emulator runs the worker as it is")
+    def test_on_arm_with_a_kit_and_an_emulator(self):
+        program = self.unpacked() + ON_ARM + CODES_AND_READS
+        self.on_the_path("rt", f"echo {self.elsewhere}/kit/guide.txt")
+        ran = python("-I", "-c", program, environment=plain_environment(self.elsewhere))
+        self.assertEqual(ran.returncode, 1)
+        self.assertRegex(ran.stdout, NEEDS_EMULATOR)
+        library = f"{self.elsewhere}/kit/toolchain/lib"
+        self.on_the_path("qemu-x86_64", f'[ "$1 $2 $3" = "{library}/ld-linux-x86-64.so.2 --library-path {library}" ] && exec "$4"')
+        ran = python("-I", "-c", program, environment=plain_environment(self.elsewhere))
         self.assertEqual(ran.returncode, 0, ran.stdout)
+
+    def on_the_path(self, name, line):
+        path = os.path.join(self.elsewhere, name)
+        with open(path, "w", encoding="ascii") as script:
+            script.write(f"#!/bin/sh\n{line}\n")
+        os.chmod(path, 0o755)
 
     def test_installed_by_pip(self):
         wheel, target = self.made(), os.path.join(self.folder, "installed")

@@ -20,8 +20,8 @@ A call that the coder refuses raises `Refused`, and then no byte of any buffer h
 
 The library is looked for at the first call: beside the package, as the wheel has it, and in hosts/out, where the script
 hosts/build makes it; or in the folder that the environment variable ZR400_OUT names. On x86-64 Linux it is loaded into this process.
-On other machines a worker process runs it under the emulator of the Rattle kit, whose command rt must be on the PATH, with
-the same answers; there the bytes go through a pipe. ZR400_LIBRARY may name a library to be loaded in any case, and ZR400_WORKER a worker
+On other machines a worker process runs it under an emulator, qemu-x86_64, over the C library of the Rattle kit; that and the kit's command rt
+must be on the PATH. The answers are the same; there the bytes go through a pipe. ZR400_LIBRARY may name a library to be loaded in any case, and ZR400_WORKER a worker
 program to be used in any case.
 
 An interrupted call (Ctrl-C) has changed either no byte of its outputs or all that it would have changed. A forked child may call,

@@ -486,25 +486,25 @@ def _found(file: str) -> str:
 
 
 def command(program: str) -> List[str]:
-    """The command that runs an x86-64 program on this machine, where need be by the tools of the Rattle kit."""
+    """The command that runs an x86-64 program on this machine, where need be by an emulator, over the C library of the Rattle kit."""
     if is_native():
         return [program]
     machine = platform.machine()
     rt = shutil.which("rt")
     if rt is None:
         raise OSError(
-            f"zr400 is made for x86-64, and on this machine ({machine}) it needs the Rattle kit, whose emulator runs the coder: "
+            f"zr400 is made for x86-64, and on this machine ({machine}) it needs the Rattle kit, over whose C library the coder runs: "
             "the kit's command rt is not on the PATH"
         )
     said = subprocess.run([rt, "doc"], stdout=subprocess.PIPE)
     if said.returncode != 0:
         raise OSError(f"the Rattle kit does not say where it is: {rt} doc ended with status {said.returncode}")
     guide = said.stdout.decode().strip()
-    tools = os.path.join(os.path.dirname(os.path.dirname(guide)), "on", machine, "toolchain")
-    emulator = os.path.join(tools, "bin", "qemu-x86_64")
-    if not os.path.exists(emulator):
-        raise OSError(f"the Rattle kit has no emulator of x86-64 for this machine ({machine}): {emulator} is not there")
-    return [emulator, os.path.join(tools, "lib", "ld-linux-x86-64.so.2"), "--library-path", os.path.join(tools, "lib"), program]
+    library = os.path.join(os.path.dirname(guide), "toolchain", "lib")
+    emulator = shutil.which("qemu-x86_64")
+    if emulator is None:
+        raise OSError(f"zr400 is made for x86-64, and on this machine ({machine}) it needs an emulator of that: qemu-x86_64 is not on the PATH")
+    return [emulator, os.path.join(library, "ld-linux-x86-64.so.2"), "--library-path", library, program]
 
 
 def version() -> str:
