@@ -5,6 +5,7 @@ from __future__ import annotations
 import os
 import re
 from dataclasses import dataclass, field
+from fnmatch import fnmatchcase
 from functools import lru_cache
 from pathlib import Path
 from typing import Dict, Iterator, List, Set, Tuple
@@ -28,7 +29,7 @@ class Name:
 
 @dataclass(frozen=True)
 class Module:
-    """A file of antt: crates/CRATE/PART/NAME.antt, or proofs/FUNCTION/Proof.antt, whose name is FUNCTION."""
+    """A file of antt: crates/CRATE/PART/NAME.antt, or one of those in proofs/FUNCTION/ (Invariants.antt, Answers.antt), whose name is FUNCTION."""
 
     crate: str
     part: str  # specs or proofs
@@ -55,6 +56,7 @@ class Edit:
 class Crate:
     name: str
     family: str
+    is_static: bool  # a static library, for C
     stands_on: List[str]  # as crates.txt has it, without the kit's crates
     direct: List[str] = field(default_factory=list)  # of these, the ones that do not follow from the others
     layer: int = 0
@@ -73,9 +75,10 @@ class Crate:
         source = f"crates/{self.name}/src/"
         text = read(source + "lib.rt")
         open_files = {source + "lib.rt"} | {f"{source}{m}.rt" for m in re.findall(r"^pub mod (\w+);", text, re.M)}
-        handed_on = {(f"{source}{m}.rt", n) for m, n in re.findall(r"^pub use (\w+)::(\w+);", text, re.M)}
-        if len(handed_on) != len(re.findall(r"^pub use ", text, re.M)):
+        uses = re.findall(r"^pub use (\w+)::(?:(\w+)|\{([\w\s,]+)\});", text, re.M)
+        if len(uses) != len(re.findall(r"^pub use ", text, re.M)):
             raise SystemExit(f"{source}lib.rt: a `pub use` that docs/house.py cannot read")
+        handed_on = {(f"{source}{module}.rt", name) for module, one, several in uses for name in re.findall(r"\w+", one or several)}
         functions = [n for n in self.code if n.kind == "fn" and n.public]
         return [n for n in functions if n.file in open_files or (n.file, n.name) in handed_on]
 
@@ -96,7 +99,9 @@ def made() -> Tuple[str, ...]:
 
 def is_made(path: str) -> bool:
     """It stands in a folder that .gitignore names: a script makes it, and it may be there or not."""
-    return any(f"{path}/".startswith(f"{m}/") or Path(path).name == m for m in made())
+    parts = path.strip("/").split("/")
+    folders = ["/".join(parts[:k]) for k in range(1, len(parts) + 1)]
+    return any(parts[-1] == m or any(fnmatchcase(f, m) for f in folders) for m in made())
 
 
 def kept_files() -> Iterator[str]:
@@ -196,15 +201,16 @@ def read_house() -> Dict[str, Crate]:
 
 
 def listed_crates() -> Iterator[Tuple[str, Crate]]:
-    """The lines `NAME: crates` under the section `# ---- FAMILY: words` before them."""
+    """The lines `NAME: crates`, or `NAME staticlib: crates`, under the section `# ---- FAMILY: words` before them."""
     family = ""
     for line in read("crates.txt").splitlines():
         section = re.match(r"# ---- ([^:]+)", line)
         if section:
             family = section[1].strip()
         elif ":" in line and not line.startswith("#"):
-            name, stands_on = line.split(":", 1)
-            yield name.strip(), Crate(name.strip(), family, stands_on.split())
+            head, stands_on = line.split(":", 1)
+            name, *kind = head.split()
+            yield name, Crate(name, family, kind == ["staticlib"], stands_on.partition("#")[0].split())
 
 
 def kit_crates() -> Set[str]:
@@ -227,7 +233,7 @@ def modules_of(crate: str) -> Iterator[Module]:
     for part in ("specs", "proofs"):
         for file in found(f"crates/{crate}/{part}/**/*.antt"):
             path = Path(file)
-            of_function = path.name == "Proof.antt"
+            of_function = path.parent.name != part
             name = path.parent.name if of_function else path.stem
             yield Module(crate, part, name, of_function, tuple(names_of_antt(file)))
 
