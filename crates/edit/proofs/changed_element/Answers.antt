@@ -6,10 +6,6 @@ use borrow.Author.Rules.{rules}
 use Rattle.edit.proofs.changed_element.Goals as goal
 
 pub returns : goal.returns
-returns l = let r = c.before in
-    let old = r.before in
-    let w = old.before in
-    let s = w.before.before.before in
-    let a = s.args in
-    changed_bit a.b a.bits.now a.capture.now old.word_in.result r.block-element.result c.sum.result a.e i s.requires.2 s.requires.3 l
-    (old.word_in.ensures ∙ ap (word_in a.capture.now) w.slot.ensures) r.block-element.ensures c.sum.ensures
+returns c i l = let a = c.args in
+    changed_bit a.b a.bits.now a.capture.now c.word_in-old.result c.block_element.result c.sum.result a.e i c.requires.2 c.requires.3 l
+    (c.word_in-old.ensures ∙ ap (word_in a.capture.now) c.slot.ensures) c.block_element.ensures c.sum.ensures

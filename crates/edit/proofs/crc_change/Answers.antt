@@ -15,18 +15,8 @@ use Rattle.edit_spec.specs.Edit.{fec_of, block_from, change, element_local}
 use Rattle.edit_spec.proofs.Listing.{own_element, own_fec, own_in}
 use Rattle.edit_spec.proofs.Changing.{crc_changes}
 use borrow.Author.Rules.{rules}
+use Rattle.edit.proofs.crc_change.Invariants.{first_of, end_of, changes}
 use Rattle.edit.proofs.crc_change.Goals as goal
-
--- the first element that holds a bit of the block, and the first one behind it
-abbrev first_of : ℕ → ℕ
-first_of b = block_from b / element_bits
-
-abbrev end_of : ℕ → ℕ
-end_of b = (block_from b + 256) / element_bits + 1
-
--- the changed bits from there on
-abbrev changes : ℕ → List ℕ → List ℕ → ℕ → ℕ
-changes b bits capture = from_index (change b bits (fec_in (word_in capture) (fec_of b))) (element_bits * first_of b)
 
 pub loop-m-init : goal.loop-m-init
 unfolding rem_from

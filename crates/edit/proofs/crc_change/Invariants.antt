@@ -16,5 +16,16 @@ use Rattle.edit_spec.proofs.Listing.{own_element, own_fec, own_in}
 use Rattle.edit_spec.proofs.Changing.{crc_changes}
 use Rattle.edit.proofs.crc_change.Given as goal
 
+-- the first element that holds a bit of the block, and the first one behind it
+abbrev pub first_of : ℕ → ℕ
+first_of b = block_from b / element_bits
+
+abbrev pub end_of : ℕ → ℕ
+end_of b = (block_from b + 256) / element_bits + 1
+
+-- the changed bits from there on
+abbrev pub changes : ℕ → List ℕ → List ℕ → ℕ → ℕ
+changes b bits capture = from_index (change b bits (fec_in (word_in capture) (fec_of b))) (element_bits * first_of b)
+
 abbrev pub invariant-loop-m : goal.invariant-loop-m
 invariant-loop-m l = (first_of l.b ≤ l.m) × (l.m ≤ end_of l.b) × (l.r ≡ crc_rem (changes l.b l.bits l.capture) (element_bits * (l.m - first_of l.b)))

@@ -20,7 +20,7 @@ loop-i-init c = (omega arith, refl)
 pub loop-i-preserved : goal.loop-i-preserved
 loop-i-preserved c = let h = c.loop-i in
     let a = c.args in
-    let b = c.bit_at_law in
+    let b = c.bit_at in
     let small : b.result < 2 = rw b.ensures (bit_of_lt 8 a.v h.i) in
     (omega arith, crc_rem_more a.r (bit_at a.v) h.i h.invariant.1 b.ensures (c.take-x.ensures ∙ ap (crc_step h.x) (mod-eq_of_lt small)))
 
