@@ -5,4 +5,4 @@ use Rattle.test_input.proofs.code.Goals as goal
 
 pub returns : goal.returns
 returns c = let o = c.code_room.ensures in
-    rw (c.fill_room.ensures, ← c.large_space-room.ensures.0) at o
+    rw (c.fill_room.ensures, ← c.large_space-room.ensures.room) at o

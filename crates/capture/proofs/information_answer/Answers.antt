@@ -1,0 +1,28 @@
+-- `capture::information_answer` meets its contract: the tests in turn are the table. Assumes nothing.
+use Prim.Native.Nat.{◌≤◌}
+use mathlib.Core.Bool.{not}
+use mathlib.Core.Path.{ap}
+use native.Mathlib.Omega.{arith}
+use Rattle.answer.specs.Numbers.{outside_set}
+use Rattle.answer.specs.Steps.{faults_then, row_then, in_turn}
+use Rattle.answer.proofs.Turns.{in_turn_law, turn_refused}
+use Rattle.sizes.specs.Sizes.{most_frames}
+use Rattle.line.proofs.CaptureLaws.{frames_in}
+use Rattle.capture.specs.Part.{part_rows, part_answer}
+use Rattle.capture.proofs.information_answer.Goals.{Else-not-one_of}
+use borrow.Author.Rules.{rules}
+use Rattle.capture.proofs.information_answer.Goals as goal
+
+few : (c : Else-not-one_of) → c.args.n ≤ most_frames
+few c = (frames_in _ _ c.one_of.ensures (ap not c.if-not-one_of.false)).few
+
+pub returns-then-not-one_of : goal.returns-then-not-one_of
+unfolding part_answer part_rows
+returns-then-not-one_of c = turn_refused outside_set _ _ 0 (ap not c.one_of.ensures) (ap not c.if-not-one_of.true) c.refuse.ensures
+
+pub overflow_mul-stated : goal.overflow_mul-stated
+overflow_mul-stated c = omega (arith, few c)
+
+pub returns : goal.returns
+unfolding part_answer part_rows in_turn row_then faults_then
+returns c = rw (in_turn_law, ← c.one_of.ensures, c.if-not-one_of.false) (rw c.granted.ensures at c.refuse_length.ensures)
