@@ -156,23 +156,13 @@ fn read_all<R: Read>(from: &mut R, into: &mut [u8]) -> io::Result<usize>
 }
 
 // Writes bytes to the file that argument i names, over what was there.
-pub fn save<W: Write>(
-    out: &mut W,
-    rt: &HostRuntime,
-    i: usize,
-    bytes: &[u8],
-) -> io::Result<bool> {
+pub fn save<W: Write>(out: &mut W, rt: &HostRuntime, i: usize, bytes: &[u8]) -> io::Result<bool> {
     let mut path = [0u8; ARGUMENT_BYTES];
     let k = argument(rt, i, &mut path);
     save_to(out, rt, &path[..k], bytes)
 }
 
-fn save_to<W: Write>(
-    out: &mut W,
-    rt: &HostRuntime,
-    path: &[u8],
-    bytes: &[u8],
-) -> io::Result<bool> {
+fn save_to<W: Write>(out: &mut W, rt: &HostRuntime, path: &[u8], bytes: &[u8]) -> io::Result<bool> {
     let mut file = match open_overwrite(rt, path) {
         Ok(file) => file,
         Err(error) => {
@@ -183,7 +173,13 @@ fn save_to<W: Write>(
     match file.write_all(bytes) {
         Ok(()) => Ok(true),
         Err(error) => {
-            failed(out, rt, path, b" cannot be written, and is not whole\n", error)?;
+            failed(
+                out,
+                rt,
+                path,
+                b" cannot be written, and is not whole\n",
+                error,
+            )?;
             Ok(false)
         }
     }

@@ -98,8 +98,14 @@ fn meaning<W: Write>(out: &mut W, number: u64) -> io::Result<()> {
         8 => say(out, b"pad not zero"),
         9 => say(out, b"a word to be listed fails a check"),
         10 => say(out, b"fewer than 16 bytes, or the first bytes differ"),
-        11 => say(out, b"count missing or outside 1..32, or a kind outside 1..3 in a whole entry"),
-        12 => say(out, b"an entry cut off, or an offset or the end not where the rule puts it"),
+        11 => say(
+            out,
+            b"count missing or outside 1..32, or a kind outside 1..3 in a whole entry",
+        ),
+        12 => say(
+            out,
+            b"an entry cut off, or an offset or the end not where the rule puts it",
+        ),
         _ => say(out, b"a number that zr does not know"),
     }
 }
