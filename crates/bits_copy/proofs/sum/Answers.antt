@@ -17,3 +17,6 @@ loop-k-preserved c = let a = c.args in
     let x : Fits w8 (get_or a.a k 0) = search rules in
     let y : Fits w8 (get_or a.b k 0) = search rules in
     filled_more c.loop-k.invariant c.loop-k-test.true (element_xor 8 a.a a.b k x.fits y.fits)
+
+pub loop-k-init : goal.loop-k-init
+loop-k-init c = search loops
