@@ -446,7 +446,8 @@ fn edit_never<W: Write>(
     capture: &mut [u8],
 ) -> io::Result<()> {
     name_never(out, block, what)?;
-    edit(out, block, 0, capture)
+    edit(out, block, 0, capture)?;
+    Ok(())
 }
 
 fn edit_twice<W: Write>(out: &mut W, block: u64, capture: &mut [u8]) -> io::Result<()> {
