@@ -25,11 +25,11 @@ abbrev pub crc_step : ℕ → ℕ → ℕ
 crc_step r b = any.step width poly r b
 
 abbrev pub crc_shift_n : ℕ → ℕ → ℕ
-crc_shift_n m r = any.shiftN width poly m r
+crc_shift_n m r = any.shift_n width poly m r
 
 -- the remainder of f·x^32, f the polynomial of n bits
 abbrev pub crc_rem : (ℕ → ℕ) → ℕ → ℕ
-crc_rem f n = any.remOf width poly f n
+crc_rem f n = any.rem_of width poly f n
 
 -- the bits of f, the first 32 of them complemented
 unfoldable pub opened : (ℕ → ℕ) → ℕ → ℕ

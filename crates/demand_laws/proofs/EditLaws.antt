@@ -1,6 +1,6 @@
 -- The edited capture is the capture of the edited input, byte for byte: what demand 3 rests on. Assumes nothing.
 use Prim.Native.Nat.{ℕ, ◌+◌, ◌-◌, ◌*◌, ◌/◌, ◌%◌, ◌≤◌, ◌<◌}
-use mathlib.Core.Bool.{Bool, true, false, cond, ◌&&◌, ◌||◌, and_false}
+use mathlib.Core.Bool.{Bool, true, false, cond, ◌&&◌, ◌||◌, and-false}
 use mathlib.Core.Path.{◌≡◌, refl, sym, ap, ap₂, ◌∙◌}
 use mathlib.Core.List.{List}
 use native.Mathlib.Decide.{ℕ_discrete}
@@ -73,7 +73,7 @@ in_block_law b t i h = by_block (ℕ_discrete t (fec_of b))
     elsewhere ne =
         by_bound (fec_of b) t (λ l. rw (lt-leb (block_bits * b) (info_bits * t + i) (omega (arith, whole))))
         (λ l. let g : fec_of b < t = lt_of_le-ne l (λ e. ne (sym e)) in
-        rw (le-ltb (info_bits * t + i) (block_bits * b + block_bits) (omega (arith, whole))) (and_false (leb (block_bits * b) (info_bits * t + i))))
+        rw (le-ltb (info_bits * t + i) (block_bits * b + block_bits) (omega (arith, whole))) (and-false (leb (block_bits * b) (info_bits * t + i))))
 
     by_block : Dec (t ≡ fec_of b) → leb (block_bits * b) (info_bits * t + i) && ltb (info_bits * t + i) (block_bits * b + block_bits) ≡ eqb t
         (fec_of b) && (leb (block_from b) i && ltb i (block_from b + block_bits))

@@ -1,6 +1,6 @@
 -- Which words are listed: what `listed` means, how many there are, and the list of them. Assumes nothing.
 use Prim.Native.Nat.{ℕ, suc, ◌+◌, ◌-◌, ◌*◌, ◌/◌, ◌%◌, ◌≤◌, ◌<◌}
-use mathlib.Core.Bool.{Bool, true, false, cond, not, ◌&&◌, and_true}
+use mathlib.Core.Bool.{Bool, true, false, cond, not, ◌&&◌, and-true}
 use mathlib.Core.Path.{◌≡◌, refl, sym, ap, ◌∙◌}
 use mathlib.Core.List.{List}
 use mathlib.Core.Logic.{◌⊎◌, inl, inr, ⊎_elim}
@@ -178,10 +178,10 @@ module _ (N b w m : ℕ) (l : m < fec_elements) (e : element_in w ≡ first_elem
   listed_own =
       let f = own_fec b m l in
       let pad = no_pad_test (first_element b + m) (own_element b m l) in
-      rw (e, pad, f.1, eq-eqb (element_fec (first_element b + m)) (fec_of b) f.0, and_true (holds N w), and_true (holds N w))
+      rw (e, pad, f.1, eq-eqb (element_fec (first_element b + m)) (fec_of b) f.0, and-true (holds N w), and-true (holds N w))
 
   listed_touched : touches b (element_bits * m) element_bits ≡ true → holds N w ≡ listed N b w
-  listed_touched h = sym (and_true (holds N w)) ∙ rw (← h) listed_own
+  listed_touched h = sym (and-true (holds N w)) ∙ rw (← h) listed_own
 
 -- no element of that FEC block, or one that holds no touched bit
 listed_none : (N b w : ℕ) → ((m : ℕ) → m < fec_elements → element_in w ≡ first_element b + m → touches b (element_bits * m) element_bits ≡ false) → false ≡ listed N b w

@@ -1,6 +1,6 @@
 -- The laws of `picked`, and two laws of `count`: how many a test picks, from a numbering of those that it picks. Assumes nothing.
 use Prim.Native.Nat.{ℕ, zero, suc, ◌+◌, ◌-◌, ◌≤◌, ◌<◌}
-use mathlib.Core.Bool.{Bool, true, false, cond, not, ◌&&◌, and_true, and_false}
+use mathlib.Core.Bool.{Bool, true, false, cond, not, ◌&&◌, and-true, and-false}
 use mathlib.Core.Path.{◌≡◌, refl, sym, ap, ◌∙◌}
 use mathlib.Core.List.{List, [], ◌∷◌, ◌++◌, append-nil, append_assoc}
 use mathlib.Core.Logic.{⊎_elim}
@@ -130,11 +130,11 @@ without p x w = p w && not (eqb w x)
 
 without_other : (p : ℕ → Bool) (x w : ℕ) → (w ≡ x → ⊥) → without p x w ≡ p w
 unfolding without
-without_other p x w h = rw (ne_eqb w x h) (and_true (p w))
+without_other p x w h = rw (ne_eqb w x h) (and-true (p w))
 
 without_here : (p : ℕ → Bool) (x : ℕ) → without p x x ≡ false
 unfolding without
-without_here p x = rw (eq-eqb x x refl) (and_false (p x))
+without_here p x = rw (eq-eqb x x refl) (and-false (p x))
 
 without_true : (p : ℕ → Bool) (x w : ℕ) → without p x w ≡ true → (p w ≡ true) × (w ≡ x → ⊥)
 unfolding without

@@ -1,6 +1,6 @@
 -- Which bits of an FEC block an edit touches, and which elements hold one of them. Assumes nothing.
 use Prim.Native.Nat.{ℕ, zero, suc, ◌+◌, ◌-◌, ◌*◌, ◌/◌, ◌≤◌, ◌<◌}
-use mathlib.Core.Bool.{Bool, true, false, ◌&&◌, ◌||◌, and_false}
+use mathlib.Core.Bool.{Bool, true, false, ◌&&◌, ◌||◌, and-false}
 use mathlib.Core.Path.{◌≡◌, refl, sym, ap, ◌∙◌}
 use mathlib.Core.Logic.{⊎_elim}
 use native.Mathlib.Nat.{not-suc-le-zero, eq-or-lt_of_le, le_of_suc-le-suc}
@@ -24,7 +24,7 @@ block_before b i h = rw (lt-leb (block_from b) i h)
 
 pub block_past : (b i : ℕ) → block_from b + block_bits ≤ i → in_block b i ≡ false
 unfolding in_block
-block_past b i h = rw (le-ltb i (block_from b + block_bits) h) (and_false (leb (block_from b) i))
+block_past b i h = rw (le-ltb i (block_from b + block_bits) h) (and-false (leb (block_from b) i))
 
 -- ---- one bit among n
 

@@ -1,7 +1,7 @@
 -- The laws of the interleaver: the two index maps are inverse to each other, which slots are filler, and where two super frames mix.
 -- Assumes nothing.
 use Prim.Native.Nat.{ℕ, ◌+◌, ◌-◌, ◌*◌, ◌/◌, ◌%◌, ◌≤◌, ◌<◌}
-use mathlib.Core.Bool.{Bool, true, false, not, and_true}
+use mathlib.Core.Bool.{Bool, true, false, not, and-true}
 use mathlib.Core.Path.{◌≡◌, refl, sym, ap, ◌∙◌}
 use native.Mathlib.Omega.{arith}
 use borrow.Author.Tests.{ltb-true, ltb-false, leb-true, lt-ltb, le-ltb, le-leb, lt-leb}
@@ -115,7 +115,7 @@ slot_bits N E w h i = cond_bit (holds N w) (E (element_in w) i) 0 (h (element_in
 
 before_flush : (N k : ℕ) → k < longest_wait → 0 < N → holds N k ≡ leb (delay k) k
 unfolding holds element_in
-before_flush N k h p = rw (lt-ltb (k - delay k) (super_elements * N) (omega arith)) (and_true (leb (delay k) k))
+before_flush N k h p = rw (lt-ltb (k - delay k) (super_elements * N) (omega arith)) (and-true (leb (delay k) k))
 
 -- a border has whole rows before it
 border_delay : (f k : ℕ) → delay (super_elements * f + k) ≡ delay k

@@ -16,3 +16,6 @@ loop-k-preserved c = let h = c.loop-k in
     let a = c.args in
     filled_more h.invariant c.loop-k-test.true (c.eight_of.ensures
     ∙ num_two_from 8 a.s.now a.i h.k _ _ (omega arith) c.byte_at.ensures c.byte_at-in-loop-k.ensures)
+
+pub loop-k-init : goal.loop-k-init
+loop-k-init c = search loops

@@ -19,7 +19,7 @@ pub offset_bounds-t-r : goal.offset_bounds-t-r
 offset_bounds-t-r c = omega (arith, place c)
 
 pub bounds-t-r : goal.bounds-t-r
-bounds-t-r c = omega (arith, place c)
+bounds-t-r c = omega (arith, place (goal.at.bounds-t-r c).After-wide)
 
 pub returns : goal.returns
 unfolding byte_step

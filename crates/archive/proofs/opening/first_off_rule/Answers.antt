@@ -1,0 +1,25 @@
+-- `archive::opening::first_off_rule` meets its contract: an entry a turn. Assumes nothing.
+use native.Mathlib.Omega.{arith}
+use Prim.Native.Nat.{◌-◌}
+use Rattle.prelude.proofs.LoopLaws.{loops}
+use Rattle.archive_spec.specs.File.{length_in}
+use Rattle.archive_spec.specs.Read.{off_rule}
+use Rattle.archive_spec.proofs.Starts.{Walked, walked_none, walked_end, off_here, off_more, rule_small}
+use borrow.Author.Rules.{rules}
+use Rattle.archive.proofs.opening.first_off_rule.Goals as goal
+
+pub overflow_add-from : goal.overflow_add-from
+overflow_add-from c = let t = rule_small _ _ _ _ _ _ c.is_off_rule.ensures c.if-is_off_rule.false in
+    omega (arith, c.number_at-long.ensures.small)
+
+pub loop-e-init : goal.loop-e-init
+loop-e-init c = search walked_none
+
+pub returns-then-is_off_rule : goal.returns-then-is_off_rule
+returns-then-is_off_rule c = search (off_here, rules)
+
+pub loop-e-preserved : goal.loop-e-preserved
+loop-e-preserved c = search (off_more, rules)
+
+pub returns : goal.returns
+returns c = search (walked_end, rules)

@@ -1,0 +1,13 @@
+-- `gmp_count::step` meets its contract: each return by the tests that led there. Assumes nothing.
+use Rattle.gmp_count.proofs.Stepping.{steps}
+use borrow.Author.Rules.{rules}
+use Rattle.gmp_count.proofs.step.Goals as goal
+
+pub returns-then-kept : goal.returns-then-kept
+returns-then-kept c = search steps
+
+pub returns-then-b-eq10 : goal.returns-then-b-eq10
+returns-then-b-eq10 c = search steps
+
+pub returns : goal.returns
+returns c = search steps

@@ -1,0 +1,62 @@
+-- `gmp_map::fill_groups` meets its contract: two groups a turn. Assumes nothing.
+use Prim.Native.Nat.{◌+◌, ◌-◌, ◌*◌, ◌/◌, ◌≤◌, min}
+use mathlib.Core.Path.{◌≡◌}
+use native.Mathlib.Omega.{arith}
+use lib.ListN.{length, take, drop, length-take, length-drop}
+use Rattle.bits.specs.Bits.{byte_of}
+use Rattle.prelude.proofs.Lists.{Filled, filled_none, filled_to, filled_all}
+use Rattle.sizes.specs.Sizes.{pair_bytes}
+use Rattle.gmp_map.specs.Groups.{groups_bit}
+use Rattle.gmp_window.proofs.Judging.{data_window}
+use Rattle.gmp_map.proofs.Pairs.{pairs_filled}
+use borrow.Author.Rules.{rules}
+use Rattle.gmp_map.proofs.fill_groups.Goals as goal
+
+pub overflow_add-p-end : goal.overflow_add-p-end
+overflow_add-p-end c = omega arith
+
+pub loop-p-init : goal.loop-p-init
+loop-p-init c = (filled_to _ filled_none (omega arith), omega arith)
+
+pub overflow_mul-at : goal.overflow_mul-at
+overflow_mul-at c = omega arith
+
+pub overflow_add-at : goal.overflow_add-at
+overflow_add-at c = omega arith
+
+pub least-end-requires : goal.least-end-requires
+least-end-requires c = omega arith
+
+pub slice_bounds-fill_two-count : goal.slice_bounds-fill_two-count
+slice_bounds-fill_two-count c = omega (arith, data_window _ _ _ c.requires.0)
+
+pub slice_bounds-fill_two-start : goal.slice_bounds-fill_two-start
+slice_bounds-fill_two-start c = omega (arith, data_window _ _ _ c.requires.0)
+
+pub slice_bounds-fill_two-end : goal.slice_bounds-fill_two-end
+slice_bounds-fill_two-end c = omega arith
+
+pub fill_two-requires : goal.fill_two-requires
+fill_two-requires c = (c.requires.0, c.data_in-d.ensures, omega arith, simp (length-take, length-drop) (omega arith))
+
+pub overflow_step-p : goal.overflow_step-p
+overflow_step-p c = omega arith
+
+pub loop-p-smaller : goal.loop-p-smaller
+loop-p-smaller c = omega arith
+
+pub loop-p-preserved : goal.loop-p-preserved
+loop-p-preserved c = let t = c.loop-p in
+    let e = c.least-end.result in
+    let w = data_window _ _ _ c.requires.0 in
+    let at = pair_bytes * t.p in
+    let l : length (take (e - at) (drop at t.groups)) ≡ e - at = simp (length-take, length-drop) (omega arith) in
+    let before = filled_to at t.invariant.0 (omega arith) in
+    (filled_to _ (pairs_filled _ e before (omega arith) (omega arith) c.fill_two.ensures) (omega arith), omega arith)
+
+pub shape_of-groups : goal.shape_of-groups
+shape_of-groups c = omega arith
+
+pub returns : goal.returns
+returns c = let w = data_window _ _ _ c.requires.0 in
+    filled_all _ c.loop-p.invariant.0 (omega arith) (omega arith)

@@ -1,0 +1,9 @@
+-- `gmp_map::fill_two` meets its contract: the law `groups_pair`. Assumes nothing.
+use lib.ListN.{length}
+use Rattle.gmp_map.proofs.Filling.{groups_pair}
+use borrow.Author.Rules.{rules}
+use Rattle.gmp_map.proofs.fill_two.Goals as goal
+
+pub returns : goal.returns
+returns c = let a = c.args in
+    search (groups_pair a.c a.f a.n a.window.now a.p (length a.out.now))

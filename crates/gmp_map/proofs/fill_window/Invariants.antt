@@ -1,0 +1,13 @@
+-- `gmp_map::fill_window` meets its contract: two places a turn. Assumes nothing.
+use Prim.Native.Nat.{◌+◌, ◌-◌, ◌*◌, ◌/◌, ◌≤◌}
+use native.Mathlib.Omega.{arith}
+use lib.ListN.{length-take, length-drop}
+use Rattle.bits.specs.Bits.{byte_of}
+use Rattle.prelude.proofs.Lists.{Filled, filled_none, filled_to, filled_all}
+use Rattle.sizes.specs.Sizes.{pair_bytes}
+use Rattle.gmp_map.specs.Groups.{window_bit}
+use Rattle.gmp_map.proofs.Pairs.{pairs_filled}
+use Rattle.gmp_map.proofs.fill_window.Given as goal
+
+abbrev pub invariant-loop-p : goal.invariant-loop-p
+invariant-loop-p l = Filled (pair_bytes * l.p) (byte_of (window_bit l.c l.f l.groups)) l.initial.window l.window × (l.p ≤ l.n / 2)

@@ -1,0 +1,39 @@
+-- `gmp_map::group_place` meets its contract: the laws `no_group` and `some_group`. Assumes nothing.
+use native.Mathlib.Omega.{arith}
+use Rattle.gmp_map.proofs.Ranks.{Located, located, no_group, some_group}
+use borrow.Author.Rules.{rules}
+use Rattle.gmp_map.proofs.group_place.Goals.{Else-d-q}
+use Rattle.gmp_map.proofs.group_place.Goals as goal
+
+inside : (c : Else-d-q) → Located c.args.c c.args.f c.args.q
+inside c = located c.args.c c.args.f c.args.n c.args.q c.requires.0 c.requires.1.is c.if-d-q.false
+
+pub returns-then-d-q : goal.returns-then-d-q
+returns-then-d-q c = no_group _ _ _ _ c.requires.0 c.requires.1.is c.if-d-q.true
+
+pub overflow_mul-result : goal.overflow_mul-result
+overflow_mul-result c = omega (arith, inside c)
+
+pub overflow_add-result : goal.overflow_add-result
+overflow_add-result c = omega (arith, inside c)
+
+pub overflow_add-result-2 : goal.overflow_add-result-2
+overflow_add-result-2 c = omega (arith, inside c)
+
+pub overflow_mul-result-2 : goal.overflow_mul-result-2
+overflow_mul-result-2 c = omega (arith, inside c)
+
+pub overflow_sub-result-2 : goal.overflow_sub-result-2
+overflow_sub-result-2 c = omega (arith, inside c)
+
+pub overflow_add-result-3 : goal.overflow_add-result-3
+overflow_add-result-3 c = omega (arith, inside c)
+
+pub nonzero_div-result-2 : goal.nonzero_div-result-2
+nonzero_div-result-2 c = omega (arith, inside c)
+
+pub overflow_sub-result-3 : goal.overflow_sub-result-3
+overflow_sub-result-3 c = omega (arith, inside c)
+
+pub returns : goal.returns
+returns c = some_group _ _ _ _ c.requires.0 c.requires.1.is c.if-d-q.false

@@ -1,0 +1,13 @@
+-- `hamming_table::fill_row` meets its contract: before turn j the row has its first 2 ^ j entries. Assumes nothing.
+use Prim.Native.Nat.{ℕ, ◌+◌, ◌-◌, ◌*◌, ◌^◌, ◌≤◌}
+use mathlib.Core.Path.{◌≡◌, refl, ap, ◌∙◌}
+use mathlib.Core.List.{List}
+use native.Mathlib.Omega.{arith}
+use lib.ListN.{get_or}
+use Rattle.hamming_matrix.specs.Columns.{column_of}
+use Rattle.hamming_table.specs.Steps.{EntriesBegun}
+use Rattle.hamming_table.proofs.Doubling.{begun_to, begun_row, row_room, row_next, row_doubles}
+use Rattle.hamming_table.proofs.fill_row.Given as goal
+
+abbrev pub invariant-loop-j : goal.invariant-loop-j
+invariant-loop-j l = (l.j ≤ 8) × (l.n ≡ 2 ^ l.j) × EntriesBegun (256 * l.k + l.n) l.t

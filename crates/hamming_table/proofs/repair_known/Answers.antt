@@ -1,0 +1,8 @@
+-- `hamming_table::repair_known` meets its contract: what the callees say, put together. Assumes nothing.
+use mathlib.Core.Path.{ap, ◌∙◌}
+use Rattle.hamming.specs.Repair.{repair_at}
+use borrow.Author.Rules.{rules}
+use Rattle.hamming_table.proofs.repair_known.Goals as goal
+
+pub returns : goal.returns
+returns c = let a = c.args in c.repair_at.ensures ∙ ap (repair_at a.w a.c) c.byte_at.ensures

@@ -1,0 +1,9 @@
+-- `line::block_number` meets its contract. Assumes nothing.
+use native.Mathlib.Omega.{arith}
+use Rattle.line.specs.Fec.{block_number}
+use borrow.Author.Rules.{rules}
+use Rattle.line.proofs.block_number.Goals as goal
+
+pub returns : goal.returns
+unfolding block_number
+returns c = omega arith

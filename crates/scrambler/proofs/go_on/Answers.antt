@@ -1,0 +1,78 @@
+-- `go_on` meets its contract: what is filled reaches far enough back for the sum of four. Assumes nothing.
+use Prim.Native.Nat.{ℕ, ◌-◌, ◌*◌, ◌≤◌, ◌<◌}
+use mathlib.Core.Path.{◌≡◌, refl}
+use native.Mathlib.Omega.{arith}
+use lib.ListN.{get_or}
+use Rattle.bits.specs.Bits.{byte_of}
+use Rattle.prelude.proofs.Lists.{Filled, filled_more, filled_at, filled_to}
+use Rattle.prelude.proofs.LoopLaws.{loops}
+use Rattle.scrambler.specs.Scrambler.{o}
+use Rattle.scrambler.proofs.Strides.{next_sum, opened_begun}
+use borrow.Author.Rules.{rules}
+use Rattle.scrambler.proofs.go_on.Goals as goal
+
+pub overflow_step-k : goal.overflow_step-k
+overflow_step-k c = omega arith
+
+pub loop-k-init : goal.loop-k-init
+loop-k-init c = let b = c.requires.4 in (omega arith, c.requires.2, record { within = b.within; len = refl; is = b.is })
+
+pub overflow_sub-out : goal.overflow_sub-out
+overflow_sub-out c = omega arith
+
+pub bounds-out-k : goal.bounds-out-k
+bounds-out-k c = omega arith
+
+pub overflow_mul-out : goal.overflow_mul-out
+overflow_mul-out c = omega arith
+
+pub overflow_sub-out-in-loop-k : goal.overflow_sub-out-in-loop-k
+overflow_sub-out-in-loop-k c = omega arith
+
+pub bounds-out-k-in-loop-k : goal.bounds-out-k-in-loop-k
+bounds-out-k-in-loop-k c = omega arith
+
+pub overflow_mul-out-in-loop-k : goal.overflow_mul-out-in-loop-k
+overflow_mul-out-in-loop-k c = omega arith
+
+pub overflow_sub-out-in-loop-k-2 : goal.overflow_sub-out-in-loop-k-2
+overflow_sub-out-in-loop-k-2 c = omega arith
+
+pub bounds-out-k-in-loop-k-2 : goal.bounds-out-k-in-loop-k-2
+bounds-out-k-in-loop-k-2 c = omega arith
+
+pub overflow_mul-out-in-loop-k-2 : goal.overflow_mul-out-in-loop-k-2
+overflow_mul-out-in-loop-k-2 c = omega arith
+
+pub overflow_sub-out-in-loop-k-3 : goal.overflow_sub-out-in-loop-k-3
+overflow_sub-out-in-loop-k-3 c = omega arith
+
+pub bounds-out-k-in-loop-k-3 : goal.bounds-out-k-in-loop-k-3
+bounds-out-k-in-loop-k-3 c = omega arith
+
+pub bounds-out-k-in-loop-k-4 : goal.bounds-out-k-in-loop-k-4
+bounds-out-k-in-loop-k-4 c = omega arith
+
+pub overflow_step-k-in-loop-k : goal.overflow_step-k-in-loop-k
+overflow_step-k-in-loop-k c = omega arith
+
+pub loop-k-smaller : goal.loop-k-smaller
+loop-k-smaller c = omega arith
+
+pub loop-k-preserved : goal.loop-k-preserved
+loop-k-preserved c = let h = c.loop-k in
+    let s = c.args.s in
+    let l = c.loop-k-test.true in
+    let at : (j : ℕ) → j < h.k → get_or h.out j 0 ≡ byte_of o j = λ j m. filled_at 0 h.invariant.2 m in
+    let some : 1 ≤ s = c.requires.0 in
+    let far : 16 * s ≤ h.k = h.invariant.0 in (
+      omega arith,
+      omega arith,
+      filled_more h.invariant.2 (omega arith)
+          (next_sum s h.k (λ j. get_or h.out j 0) c.requires.1 some far at),
+    )
+
+pub returns : goal.returns
+returns c = let h = c.loop-k in
+    let e = filled_to c.args.m h.invariant.2 (omega (arith, h.invariant.1, c.loop-k-test.false)) in
+    (opened_begun (record { long = e.len; is = e.is }) c.requires.3, e.len)

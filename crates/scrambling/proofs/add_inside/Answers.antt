@@ -1,0 +1,22 @@
+-- `scrambling::add_inside` meets its contract: a byte a turn. Assumes nothing.
+use Prim.Native.Nat.{◌-◌}
+use mathlib.Core.Path.{refl}
+use native.Mathlib.Omega.{arith}
+use lib.ListN.{length}
+use Rattle.prelude.specs.Lists.{from_index}
+use Rattle.bits.specs.Bits.{bit_at}
+use Rattle.prelude.proofs.Lists.{Filled, filled_more, filled_here}
+use Rattle.prelude.proofs.LoopLaws.{loops}
+use Rattle.scrambling.specs.Steps.{added_byte}
+use Rattle.scrambling.proofs.Adding.{byte_summed}
+use borrow.Author.Rules.{rules}
+use Rattle.scrambling.proofs.add_inside.Goals as goal
+
+pub loop-k-preserved : goal.loop-k-preserved
+loop-k-preserved c = let h = c.loop-k in
+    let a = c.args in
+    filled_more h.invariant (omega (arith, h.invariant.len))
+    (byte_summed a.out.now h.out a.sequence.now a.at h.k _ _ _ (filled_here 0 h.invariant) refl refl c.eight_of.ensures)
+
+pub loop-k-init : goal.loop-k-init
+loop-k-init c = search loops

@@ -1,0 +1,9 @@
+-- `symbol::symbol_of` meets its contract: four levels make the symbol (`symbol_is`). Assumes nothing.
+use Rattle.symbol.proofs.Amplitudes.{symbol_is}
+use borrow.Author.Rules.{rules}
+use Rattle.symbol.proofs.symbol_of.Goals as goal
+
+pub returns : goal.returns
+returns c = symbol_is c.args.x
+    c.level.result c.level-2.result c.level-3.result c.level-4.result
+    c.level.ensures c.level-2.ensures c.level-3.ensures c.level-4.ensures
