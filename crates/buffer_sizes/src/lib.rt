@@ -21,15 +21,15 @@ pub const SMALL_BYTES: usize = sizes::MOST_FRAMES * sizes::SUPER_PARITY_BYTES + 
 pub type Small = [u8; SMALL_BYTES];
 
 pub fn large_space() -> Large
-    ensures large_bytes_value { large_bytes ≡ length result }
-    ensures value { result ≡ replicate large_bytes 0 }
+    ensures room { large_bytes ≡ length result }
+    ensures zeros { result ≡ replicate large_bytes 0 }
 {
     [0; LARGE_BYTES]
 }
 
 pub fn small_space() -> Small
-    ensures small_bytes_value { small_bytes ≡ length result }
-    ensures value { result ≡ replicate small_bytes 0 }
+    ensures room { small_bytes ≡ length result }
+    ensures zeros { result ≡ replicate small_bytes 0 }
 {
     [0; SMALL_BYTES]
 }

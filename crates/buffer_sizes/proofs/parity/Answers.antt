@@ -1,0 +1,12 @@
+-- `buffer_sizes::parity` meets its contract: the laws `beyond` and `within`. Assumes nothing.
+use native.Mathlib.Omega.{arith}
+use Rattle.sizes.specs.Sizes.{most_frames, parity_length}
+use Rattle.buffer_sizes.proofs.Stated.{beyond, within}
+use borrow.Author.Rules.{rules}
+use Rattle.buffer_sizes.proofs.parity.Goals as goal
+
+pub returns-then-n-gt-MOST : goal.returns-then-n-gt-MOST
+returns-then-n-gt-MOST c = beyond most_frames parity_length c.args.n c.if-n-gt-MOST.true
+
+pub returns : goal.returns
+returns c = within most_frames parity_length c.args.n c.if-n-gt-MOST.false (omega arith)

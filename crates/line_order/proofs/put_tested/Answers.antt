@@ -1,0 +1,39 @@
+-- `line_order::put_tested` meets its contract: a symbol a turn. Assumes nothing.
+use Prim.Native.Nat.{◌-◌, ◌≤◌}
+use mathlib.Core.Path.{◌≡◌, refl}
+use native.Mathlib.Omega.{arith}
+use lib.ListN.{length, length-set}
+use Rattle.sizes.specs.Sizes.{word_bytes}
+use Rattle.prelude.proofs.LoopLaws.{Folded, folded_none, folded_more, folded_all}
+use Rattle.line_order.specs.Order.{the_line_order}
+use Rattle.line_order.specs.Steps.{put_symbol_by, put_by}
+use borrow.Author.Rules.{rules}
+use Rattle.line_order.proofs.put_tested.Goals as goal
+
+pub loop-k-init : goal.loop-k-init
+loop-k-init c = (folded_none, refl, omega arith)
+
+pub bounds-v-k : goal.bounds-v-k
+bounds-v-k c = omega arith
+
+pub put_symbol-requires : goal.put_symbol-requires
+put_symbol-requires c = omega arith
+
+pub overflow_step-k : goal.overflow_step-k
+overflow_step-k c = omega arith
+
+pub loop-k-smaller : goal.loop-k-smaller
+loop-k-smaller c = omega arith
+
+pub loop-k-preserved : goal.loop-k-preserved
+unfolding put_symbol_by the_line_order
+loop-k-preserved c = let i = c.loop-k.invariant in
+    let e = c.put_symbol.ensures in
+    (folded_more i.0 e, rw e (simp length-set i.1), omega arith)
+
+pub shape_of-capture : goal.shape_of-capture
+shape_of-capture c = omega arith
+
+pub returns : goal.returns
+unfolding put_by
+returns c = folded_all word_bytes c.loop-k.invariant.0 c.loop-k.invariant.2 c.loop-k-test.false
