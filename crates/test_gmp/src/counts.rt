@@ -1,6 +1,6 @@
 // What one stored case of gmp_runs cannot show: counts written in every way, the runs of the seven counts of 001 Table 7, and run requests at the edges of
 // their sets.
-ghost use Rattle.std.specs.Prelude.{◌≤◌, ◌<◌, ◌+◌, length};
+ghost use Rattle.std.specs.Prelude.{◌≤◌, ◌<◌, ◌+◌, length, IfOk};
 
 use answer::Answer;
 use gmp::Kind;
@@ -31,7 +31,7 @@ fn print_answer<W: Write>(out: &mut W, name: &[u8], a: Answer) -> io::Result<()>
 // begins.
 fn take_byte<W: Write>(out: &mut W, s: &[u8], from: usize, k: usize) -> io::Result<usize>
     requires { (from ≤ k) × (k < length s.now) }
-    ensures { result ≤ k + 1 }
+    ensures { IfOk result (λ next. next ≤ k + 1) }
 {
     if s[k] == b'=' {
         test_print::text(out, &s[from..k])?;
