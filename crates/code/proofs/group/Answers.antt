@@ -1,0 +1,22 @@
+-- `code::group` meets its contract. Assumes nothing.
+use Prim.Native.Nat.{◌-◌, ◌*◌}
+use native.Mathlib.Omega.{arith}
+use Rattle.prelude.specs.Lists.{from_index}
+use Rattle.prelude.proofs.Lists.{Filled, filled_more, filled_all}
+use Rattle.prelude.proofs.LoopLaws.{loops}
+use Rattle.line.specs.Fec.{fec_bit}
+use Rattle.line.specs.Words.{words_of}
+use borrow.Author.Rules.{rules}
+use Rattle.code.proofs.group.Goals as goal
+
+pub word-requires : goal.word-requires
+word-requires c = (c.requires.0, omega arith)
+
+pub loop-j-preserved : goal.loop-j-preserved
+loop-j-preserved c = filled_more c.loop-j.invariant c.loop-j-test.true c.word.ensures
+
+pub returns : goal.returns
+returns c = filled_all 8 c.loop-j.invariant c.loop-j-test.false (omega arith)
+
+pub loop-j-init : goal.loop-j-init
+loop-j-init c = search loops

@@ -1,0 +1,12 @@
+-- `code::group` meets its contract. Assumes nothing.
+use Prim.Native.Nat.{◌-◌, ◌*◌}
+use native.Mathlib.Omega.{arith}
+use Rattle.prelude.specs.Lists.{from_index}
+use Rattle.prelude.proofs.Lists.{Filled, filled_more, filled_all}
+use Rattle.prelude.proofs.LoopLaws.{loops}
+use Rattle.line.specs.Fec.{fec_bit}
+use Rattle.line.specs.Words.{words_of}
+use Rattle.code.proofs.group.Given as goal
+
+abbrev pub invariant-loop-j : goal.invariant-loop-j
+invariant-loop-j l = Filled l.j (from_index (words_of l.n (fec_bit l.m0 l.info l.parity)) (8 * l.g)) l.initial.words l.words

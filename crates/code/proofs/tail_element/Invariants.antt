@@ -1,0 +1,12 @@
+-- `code::tail_element` meets its contract. Assumes nothing.
+use Prim.Native.Nat.{◌-◌}
+use Rattle.sizes.specs.Sizes.{word_bytes}
+use Rattle.prelude.proofs.Lists.{Filled}
+use Rattle.prelude.proofs.LoopLaws.{loops}
+use Rattle.prelude.specs.Lists.{from_index}
+use Rattle.bits.specs.Bits.{bit_at, byte_of}
+use Rattle.code.specs.Steps.{tail_bit}
+use Rattle.code.proofs.tail_element.Given as goal
+
+abbrev pub invariant-loop-k : goal.invariant-loop-k
+invariant-loop-k l = Filled l.k (byte_of (tail_bit l.crc l.mbas (from_index (bit_at l.parity) l.at))) l.initial.r l.r

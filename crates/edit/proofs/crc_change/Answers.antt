@@ -1,0 +1,72 @@
+-- `edit::crc_change` meets its contract: an element a turn, and then the zeros at once. Assumes nothing.
+use Prim.Native.Nat.{ℕ, ◌+◌, ◌-◌, ◌*◌, ◌/◌, ◌%◌, ◌≤◌, ◌<◌}
+use mathlib.Core.List.{List}
+use mathlib.Core.Path.{◌≡◌, ap, ◌∙◌}
+use native.Mathlib.Omega.{arith}
+use Rattle.prelude.specs.Lists.{from_index}
+use Rattle.bits.specs.Bits.{bit_at}
+use Rattle.crc.specs.Remainder.{rem_from}
+use Rattle.crc.specs.Crc.{crc_rem, crc_shift_n}
+use Rattle.crc.proofs.Changes.{crc_rem_piece}
+use Rattle.line_order.specs.Order.{word_in}
+use Rattle.line.specs.Words.{fec_in}
+use Rattle.sizes.specs.Sizes.{info_bits, element_bits, fec_elements}
+use Rattle.edit_spec.specs.Edit.{fec_of, block_from, change, element_local}
+use Rattle.edit_spec.proofs.Listing.{own_element, own_fec, own_in}
+use Rattle.edit_spec.proofs.Changing.{crc_changes}
+use borrow.Author.Rules.{rules}
+use Rattle.edit.proofs.crc_change.Goals as goal
+
+-- the first element that holds a bit of the block, and the first one behind it
+abbrev first_of : ℕ → ℕ
+first_of b = block_from b / element_bits
+
+abbrev end_of : ℕ → ℕ
+end_of b = (block_from b + 256) / element_bits + 1
+
+-- the changed bits from there on
+abbrev changes : ℕ → List ℕ → List ℕ → ℕ → ℕ
+changes b bits capture = from_index (change b bits (fec_in (word_in capture) (fec_of b))) (element_bits * first_of b)
+
+pub loop-m-init : goal.loop-m-init
+unfolding rem_from
+loop-m-init c = let a = c.args in
+    let e : element_bits * (257 * (a.b % 952) / 119 - first_of a.b) ≡ 0 = omega arith in
+    (omega arith, omega arith, rw e)
+
+pub changed_element-requires : goal.changed_element-requires
+changed_element-requires c = let h = c.loop-m in
+    let b = c.args.b in
+    let l : h.m < fec_elements = omega (arith, c.loop-m-test.true) in
+    rw c.first_element.ensures (c.requires.0, own_in 8 b h.m c.requires.1 l, own_element b h.m l, (own_fec b h.m l).0)
+
+pub loop-m-preserved : goal.loop-m-preserved
+loop-m-preserved c = let h = c.loop-m in
+    let a = c.args in
+    let b = a.b in
+    let n = element_bits * (h.m - first_of b) in
+    let v = c.changed_element in
+    let l : h.m < fec_elements = omega (arith, c.loop-m-test.true) in
+    let q : n + element_bits ≡ element_bits * (h.m + 1 - first_of b) = omega (arith, h.invariant.0) in
+    let place : (i : ℕ) → element_bits * h.m + i ≡ element_bits * first_of b + (n + i) = λ i. omega (arith, h.invariant.0) in (
+      omega (arith, h.invariant.0),
+      omega (arith, c.loop-m-test.true),
+      crc_rem_piece (changes b a.bits.now a.capture.now) (bit_at v.result) n element_bits h.invariant.2
+          (λ i k. v.ensures i k
+          ∙ ap (λ (x : ℕ). change b a.bits.now (fec_in (word_in a.capture.now) (fec_of b)) (element_bits * x + i))
+          (ap element_local (ap (λ (x : ℕ). x + h.m) c.first_element.ensures) ∙ (own_fec b h.m l).1)
+          ∙ ap (change b a.bits.now (fec_in (word_in a.capture.now) (fec_of b))) (place i))
+          c.take_element-r.ensures
+          ∙ ap (crc_rem (changes b a.bits.now a.capture.now)) q,
+    )
+
+pub returns : goal.returns
+returns c = let h = c.loop-m in
+    let a = c.args in
+    let b = a.b in
+    let e : h.m ≡ end_of b = omega (arith, h.invariant.1, c.loop-m-test.false) in
+    c.shifted.ensures
+    ∙ ap (crc_shift_n (info_bits - element_bits * end_of b))
+    (h.invariant.2 ∙ ap (λ (x : ℕ). crc_rem (changes b a.bits.now a.capture.now) (element_bits * (x - first_of b))) e)
+    ∙ crc_changes b a.bits.now (fec_in (word_in a.capture.now) (fec_of b)) (element_bits * first_of b) (element_bits * (end_of b - first_of b))
+    (info_bits - element_bits * end_of b) (omega arith) (omega arith) (omega arith)

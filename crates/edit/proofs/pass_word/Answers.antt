@@ -1,0 +1,15 @@
+-- `edit::pass_word` meets its contract. Assumes nothing.
+use mathlib.Core.Path.{sym, ◌∙◌}
+use Rattle.edit_spec.proofs.Passes.{word_passed_yes, word_passed_no}
+use borrow.Author.Rules.{rules}
+use Rattle.edit.proofs.pass_word.Goals as goal
+
+pub returns-then-is_listed : goal.returns-then-is_listed
+returns-then-is_listed c = let a = c.args in
+    word_passed_yes a.n a.b a.bits.now a.parity.now a.crc a.w a.c a.capture.now a.list.now c.new_IsWord.result _
+    (sym c.is_listed.ensures ∙ c.if1.true) c.new_IsWord.ensures c.put_word.ensures
+
+pub returns : goal.returns
+returns c = let a = c.args in
+    word_passed_no a.n a.b a.bits.now a.parity.now a.crc a.w a.c a.capture.now a.list.now (sym c.is_listed.ensures
+    ∙ c.if-is_listed.false)

@@ -1,0 +1,17 @@
+-- `read::tally_words` meets its contract. Assumes nothing.
+use Prim.Native.Nat.{◌+◌, ◌-◌, ◌*◌, ◌≤◌}
+use mathlib.Core.Path.{◌≡◌, ◌∙◌, ap}
+use native.Mathlib.Omega.{arith}
+use Rattle.sizes.specs.Sizes.{longest_wait, super_elements}
+use Rattle.read_spec.specs.Steps.{words_to}
+use Rattle.read_spec.proofs.Searching.{words_none}
+use borrow.Author.Rules.{rules}
+use Rattle.read.proofs.tally_words.Goals as goal
+
+pub loop-w-init : goal.loop-w-init
+loop-w-init c = (words_none _ _, omega arith)
+
+pub returns : goal.returns
+returns c = let l = c.loop-w in
+    let a = c.args in
+    l.invariant.0 ∙ ap (words_to a.n a.capture.now) (omega arith)

@@ -1,0 +1,18 @@
+-- `read::write_frames` meets its contract: a super frame a turn. Assumes nothing.
+use Rattle.read_spec.proofs.Places.{info_whole, parity_whole, bytes_filled, info_all, parity_all}
+use Prim.Native.Nat.{◌+◌, ◌-◌, ◌*◌, ◌≤◌}
+use mathlib.Core.Path.{◌≡◌}
+use native.Mathlib.Omega.{arith}
+use lib.ListN.{length}
+use Rattle.bits.specs.Bits.{byte_of}
+use Rattle.prelude.proofs.Lists.{Filled, filled_none, filled_all}
+use Rattle.sizes.specs.Sizes.{super_bytes, super_info_bytes, super_parity_bytes}
+use Rattle.line.specs.Frames.{info_of, parity_of}
+use Rattle.line.specs.Words.{fec_in}
+use Rattle.read_spec.specs.Read.{repaired}
+use Rattle.read.proofs.write_frames.Given as goal
+
+abbrev pub invariant-loop-f : goal.invariant-loop-f
+invariant-loop-f l = Filled (super_info_bytes * l.f)
+    (byte_of (info_all (fec_in (repaired l.capture)))) l.initial.info l.info × Filled (super_parity_bytes * l.f) (byte_of (parity_all (fec_in (repaired l.capture)))) l.initial.parity l.parity
+    × (l.f ≤ l.n) × (length l.buffer ≡ super_bytes)
