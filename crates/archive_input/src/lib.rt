@@ -1,92 +1,86 @@
-// Opens a capture file that is too large to hold: of what a descriptor gives, the first bytes are kept and all bytes are counted.
+// Opens a capture file that is too large to hold: of what a reader gives, the first bytes are kept and all bytes are counted.
 #![tactic(auto)]
 
-ghost use Rattle.std.specs.Prelude.{◌<◌};
+ghost use Rattle.std.specs.Prelude.{◌<◌, ◌≤◌, IfOk};
 
 use answer::Answer;
 use archive::MOST_HEAD_BYTES;
+use std::io;
+use std::io::{Read, Seek, SeekFrom};
 
-// Whether the file could be read to its end, and if so what it is answered.
-#[derive(Clone, Copy)]
-pub struct Opened {
-    pub fine: bool,
-    pub answer: Answer,
-}
+// As `io::BufReader` would, but on the stack and never grown: for a loop that moves much data.
+const SPACE_BYTES: usize = 65536;
 
-// How many bytes were read, and whether the last read was fine.
-#[derive(Clone, Copy)]
-struct Seen {
-    fine: bool,
-    bytes: u64,
-}
-
-// Lists the table of the file. With `seek` a file that can seek is asked for its size, and only its first bytes are read.
+// Lists the table of what is read to its end, since it may be no file.
 // A read that fails is not the end of the file: then nothing is said of it, not even a refusal.
-pub fn read(
-    fd: i32,
-    seek: bool,
+pub fn read<R: Read>(
+    from: &mut R,
     kinds: &mut [u64],
     offsets: &mut [u64],
     lengths: &mut [u64],
-) -> Opened {
+) -> io::Result<Answer> {
     let mut first = [0u8; MOST_HEAD_BYTES];
-    let seen = look(fd, seek, &mut first);
-    let k = io::count(kept(seen.bytes), &first);
-    Opened {
-        fine: seen.fine,
-        answer: archive::read(seen.bytes, &first[..k], kinds, offsets, lengths),
-    }
+    let bytes = read_until(from, 0, u64::MAX, &mut first)?;
+    let k = kept(bytes);
+    Ok(archive::read(bytes, &first[..k], kinds, offsets, lengths))
+}
+
+// Lists the table of a file. One that can seek is asked for its size, and only its first bytes are read; any other is read to its end, as by `read`.
+pub fn read_file<F: Read + Seek>(
+    from: &mut F,
+    kinds: &mut [u64],
+    offsets: &mut [u64],
+    lengths: &mut [u64],
+) -> io::Result<Answer> {
+    let mut first = [0u8; MOST_HEAD_BYTES];
+    let bytes = look(from, &mut first)?;
+    let k = kept(bytes);
+    Ok(archive::read(bytes, &first[..k], kinds, offsets, lengths))
 }
 
 // So many first bytes are kept.
-fn kept(size: u64) -> isize {
+fn kept(size: u64) -> usize
+    ensures { result ≤ 306 }
+{
     if size < MOST_HEAD_BYTES as u64 {
-        size as isize
+        size as usize
     } else {
-        MOST_HEAD_BYTES as isize
+        MOST_HEAD_BYTES
     }
 }
 
-fn look(fd: i32, seek: bool, first: &mut [u8]) -> Seen {
+// How many bytes the file has.
+fn look<F: Read + Seek>(from: &mut F, first: &mut [u8]) -> io::Result<u64> {
     let most = MOST_HEAD_BYTES as u64;
-    let start = read_until(fd, 0, most, first);
-    if !start.fine || start.bytes < most {
-        return start;
+    let start = read_until(from, 0, most, first)?;
+    if start < most {
+        return Ok(start);
     }
-    if seek {
-        let bytes = counted(libc::lseek(fd, 0, libc::SEEK_END));
-        if most <= bytes {
-            return Seen { fine: true, bytes };
-        }
+    let bytes = counted(from.seek(SeekFrom::End(0)));
+    if most <= bytes {
+        return Ok(bytes);
     }
-    read_until(fd, start.bytes, u64::MAX, first)
+    read_until(from, start, u64::MAX, first)
 }
 
-// A number below 0 says that the file cannot seek.
-fn counted(end: i64) -> u64 {
-    if end < 0 {
-        return 0;
-    }
-    end as u64
+// An error says that the file cannot seek.
+fn counted(end: io::Result<u64>) -> u64 {
+    end.unwrap_or(0)
 }
 
-// Reads on from byte `from` until `most` bytes were seen, or to the end.
-fn read_until(fd: i32, from: u64, most: u64, first: &mut [u8]) -> Seen {
-    let mut space = io::large_buffer();
+// Reads on from byte `from` until `most` bytes were seen, or to the end, and answers how many were seen.
+fn read_until<R: Read>(reader: &mut R, from: u64, most: u64, first: &mut [u8]) -> io::Result<u64> {
+    let mut space = [0u8; SPACE_BYTES];
     let mut bytes = from;
     while bytes < most {
-        let got = libc::read(fd, &mut space);
-        let n = io::count(got, &space);
+        let n = reader.read(&mut space)?;
         if n == 0 {
-            return Seen {
-                fine: got == 0,
-                bytes,
-            };
+            return Ok(bytes);
         }
         keep(bytes, &space[..n], first);
         bytes = grown(bytes, n as u64);
     }
-    Seen { fine: true, bytes }
+    Ok(bytes)
 }
 
 // Puts the part of the file that begins at byte `from` where it belongs in `first`, as far as that reaches.

@@ -2,21 +2,32 @@
 #![tactic(auto)]
 
 use answer::Answer;
-use libc::STDIN_FILENO;
+use std::io;
+use std::io::{BufWriter, Write};
+use zr_shell::said;
 
 // Nothing is printed before the end is known. Where reading fails, standard error says why and standard output stays empty: a file that was
 // not seen to its end is neither listed nor refused.
-fn main() {
+fn main(rt: HostRuntime) -> io::Result<()> {
+    let mut out = BufWriter::new(rt.alloc(), io::writer(&rt))?;
+    list(&mut out, &rt)?;
+    out.flush()
+}
+
+fn list<W: Write>(out: &mut W, rt: &HostRuntime) -> io::Result<()> {
     let mut kinds = [0u64; 32];
     let mut offsets = [0u64; 32];
     let mut lengths = [0u64; 32];
-    let opened = archive_input::read(STDIN_FILENO, false, &mut kinds, &mut offsets, &mut lengths);
-    let answer: Answer = opened.answer;
-    if !opened.fine {
-        os::fail(b"standard input");
-    } else if answer.number != 0 {
-        archive_print::print_refused(answer.number);
-    } else {
-        archive_print::print(&kinds, &offsets, &lengths, answer.count);
+    let opened = archive_input::read(&mut rt.stdin(), &mut kinds, &mut offsets, &mut lengths);
+    let answer: Answer = match opened {
+        Ok(answer) => answer,
+        Err(error) => {
+            said::reason(rt, b"standard input", &error);
+            return Ok(());
+        }
+    };
+    if answer.number != 0 {
+        return archive_print::print_refused(out, answer.number);
     }
+    archive_print::print(out, &kinds, &offsets, &lengths, answer.count)
 }

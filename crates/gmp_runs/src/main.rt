@@ -3,7 +3,8 @@
 
 use answer::Answer;
 use gmp_count::Partial;
-use libc::STDIN_FILENO;
+use std::io;
+use std::io::{BufWriter, Read, Write};
 
 // A part of the input was read: what is kept of the first line, and whether there may be more of it.
 #[derive(Clone, Copy)]
@@ -12,40 +13,42 @@ struct Part {
     open: bool,
 }
 
-fn read_part(kept: Partial) -> Part {
-    let mut space = io::buffer();
-    let got = libc::read(STDIN_FILENO, &mut space);
-    if got <= 0 {
-        return Part { kept, open: false };
+fn read_part<R: Read>(from: &mut R, kept: Partial) -> io::Result<Part> {
+    let mut space = [0u8; 4096];
+    let n = from.read(&mut space)?;
+    if n == 0 {
+        return Ok(Part { kept, open: false });
     }
-    let n = io::count(got, &space);
     let next = gmp_count::more(kept, &space[..n]);
-    Part {
+    Ok(Part {
         kept: next,
         open: !next.ended,
-    }
+    })
 }
 
-// A proved loop has to end, and nothing says that an input does, so the turns are counted down from a number that no run uses up.
-fn read_first() -> Partial {
+// A proved loop has to end, and nothing says that an input does, so the turns are counted up to a number that no run comes to.
+fn read_first<R: Read>(from: &mut R) -> io::Result<Partial> {
     let mut kept = gmp_count::start();
-    let mut turns = u64::MAX;
-    while turns > 0 {
-        let part = read_part(kept);
+    for _ in 0..u64::MAX {
+        let part = read_part(from, kept)?;
         kept = part.kept;
         if !part.open {
-            return kept;
+            return Ok(kept);
         }
-        turns -= 1;
     }
-    kept
+    Ok(kept)
 }
 
-fn main() {
-    let answer: Answer = gmp_count::so_far(read_first());
+fn print<W: Write>(out: &mut W, answer: Answer) -> io::Result<()> {
     if answer.number != 0 {
-        gmp_print::print_named(b"refused ", answer.number);
-        return;
+        return gmp_print::print_named(out, b"refused ", answer.number);
     }
-    gmp_print::print(answer.count);
+    gmp_print::print(out, answer.count)
+}
+
+fn main(rt: HostRuntime) -> io::Result<()> {
+    let answer: Answer = gmp_count::so_far(read_first(&mut rt.stdin())?);
+    let mut out = BufWriter::new(rt.alloc(), io::writer(&rt))?;
+    print(&mut out, answer)?;
+    out.flush()
 }

@@ -7,7 +7,11 @@ mod files;
 mod reads;
 mod writes;
 
-fn main() {
-    writes::all();
-    reads::all();
+use std::io::{self, BufWriter, Write};
+
+fn main(rt: HostRuntime) -> io::Result<()> {
+    let mut out = BufWriter::new(rt.alloc(), io::writer(&rt))?;
+    writes::all(&mut out)?;
+    reads::all(&mut out)?;
+    out.flush()
 }

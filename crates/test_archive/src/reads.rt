@@ -4,6 +4,7 @@ ghost use Rattle.std.specs.Prelude.{◌≤◌};
 
 use crate::{cases, files};
 use answer::Answer;
+use std::io::{self, Write};
 
 // A case: a head of so many entries, one length of which is replaced; the file's size; two bytes that are set, with their values (999 is none); with how many
 // bytes it is handed in, 1 being right, and how many numbers the lists have.
@@ -76,7 +77,12 @@ fn join(to: &mut [u64], at: usize, from: &[u64]) {
 }
 
 // One digest of all three lists.
-fn print_lists(kinds: &[u64], offsets: &[u64], lengths: &[u64]) {
+fn print_lists<W: Write>(
+    out: &mut W,
+    kinds: &[u64],
+    offsets: &[u64],
+    lengths: &[u64],
+) -> io::Result<()> {
     let mut all = [0u64; 99];
     let a = kinds.len();
     let b = std::num::wrapping_add_usize(a, offsets.len());
@@ -85,18 +91,32 @@ fn print_lists(kinds: &[u64], offsets: &[u64], lengths: &[u64]) {
     join(&mut all, a, offsets);
     join(&mut all, b, lengths);
     if c <= 99 {
-        test_print::hex(b" lists ", test_data::digest_numbers(&all[0..c]));
+        test_print::hex(out, b" lists ", test_data::digest_numbers(&all[0..c]))?;
     }
-    test_print::end();
+    test_print::end(out)
 }
 
-fn call(size: u64, first: &[u8], kinds: &mut [u64], offsets: &mut [u64], lengths: &mut [u64]) {
+fn call<W: Write>(
+    out: &mut W,
+    size: u64,
+    first: &[u8],
+    kinds: &mut [u64],
+    offsets: &mut [u64],
+    lengths: &mut [u64],
+) -> io::Result<()> {
     let answer: Answer = archive::read(size, first, kinds, offsets, lengths);
-    test_print::outcome(b" ", answer);
-    print_lists(kinds, offsets, lengths);
+    test_print::outcome(out, b" ", answer)?;
+    print_lists(out, kinds, offsets, lengths)
 }
 
-fn call_with(size: u64, first: &[u8], k: u64, o: u64, l: u64) {
+fn call_with<W: Write>(
+    out: &mut W,
+    size: u64,
+    first: &[u8],
+    k: u64,
+    o: u64,
+    l: u64,
+) -> io::Result<()> {
     let mut kinds = [7u64; 33];
     let mut offsets = [7u64; 33];
     let mut lengths = [7u64; 33];
@@ -104,25 +124,34 @@ fn call_with(size: u64, first: &[u8], k: u64, o: u64, l: u64) {
     let j = (o % 34) as usize;
     let m = (l % 34) as usize;
     call(
+        out,
         size,
         first,
         &mut kinds[0..i],
         &mut offsets[0..j],
         &mut lengths[0..m],
-    );
+    )
 }
 
-fn run(c: Reading) {
+fn run<W: Write>(out: &mut W, c: Reading) -> io::Result<()> {
     test_print::form(
+        out,
         b"read # length # # size # set # # # # 999 0 first # lists # # #",
         &c,
-    );
+    )?;
     let mut bytes = [0u8; files::SPACE];
     files::set_head(&mut bytes, c[ENTRIES], c[LENGTH], c[LENGTH + 1]);
     files::set(&mut bytes, c[BYTE], c[BYTE + 1]);
     files::set(&mut bytes, c[6], c[7]);
     let long = first_bytes(c[SIZE], c[FIRST]);
-    call_with(c[SIZE], &bytes[0..long], c[KINDS], c[OFFSETS], c[LENGTHS]);
+    call_with(
+        out,
+        c[SIZE],
+        &bytes[0..long],
+        c[KINDS],
+        c[OFFSETS],
+        c[LENGTHS],
+    )
 }
 
 // Every number of entries; then sizes on both sides of each edge.
@@ -265,8 +294,9 @@ fn case(k: u64) -> Reading {
     lengths(k - 1140)
 }
 
-pub fn all() {
+pub fn all<W: Write>(out: &mut W) -> io::Result<()> {
     for k in 0..1221u64 {
-        run(case(k));
+        run(out, case(k))?;
     }
+    Ok(())
 }

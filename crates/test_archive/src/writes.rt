@@ -1,6 +1,7 @@
 // Heads written, and refused calls. Each group of cases is a function from its number in the group; the order is that of second/README.md.
 use crate::{cases, files};
 use answer::Answer;
+use std::io::{self, Write};
 
 // A case: the count, how many kinds, lengths and bytes of the head there are, and which kind and which length is replaced by what; 99 is none.
 type Writing = [u64; 8];
@@ -27,28 +28,40 @@ fn set_numbers(lengths: bool, e: u64, v: u64, list: &mut [u64]) {
     }
 }
 
-fn call(n: u64, kinds: &[u64], lengths: &[u64], head: &mut [u8]) {
+fn call<W: Write>(
+    out: &mut W,
+    n: u64,
+    kinds: &[u64],
+    lengths: &[u64],
+    head: &mut [u8],
+) -> io::Result<()> {
     let answer: Answer = archive::write(n, kinds, lengths, head);
-    test_print::outcome(b" ", answer);
-    test_print::digest(b" head ", head);
-    test_print::end();
+    test_print::outcome(out, b" ", answer)?;
+    test_print::digest(out, b" head ", head)?;
+    test_print::end(out)
 }
 
-fn call_with(n: u64, kinds: &[u64], lengths: &[u64], bytes: u64) {
+fn call_with<W: Write>(
+    out: &mut W,
+    n: u64,
+    kinds: &[u64],
+    lengths: &[u64],
+    bytes: u64,
+) -> io::Result<()> {
     let h = (bytes % 401) as usize;
     let mut head = [90u8; files::SPACE];
-    call(n, kinds, lengths, &mut head[0..h]);
+    call(out, n, kinds, lengths, &mut head[0..h])
 }
 
-fn run(c: Writing) {
-    test_print::form(b"write # lists # # head # kind # # length # #", &c);
+fn run<W: Write>(out: &mut W, c: Writing) -> io::Result<()> {
+    test_print::form(out, b"write # lists # # head # kind # # length # #", &c)?;
     let a = (c[KINDS] % 41) as usize;
     let b = (c[LENGTHS] % 41) as usize;
     let mut kinds = [0u64; 40];
     let mut lengths = [0u64; 40];
     set_numbers(false, c[KIND], c[KIND + 1], &mut kinds);
     set_numbers(true, c[LENGTH], c[LENGTH + 1], &mut lengths);
-    call_with(c[0], &kinds[0..a], &lengths[0..b], c[HEAD]);
+    call_with(out, c[0], &kinds[0..a], &lengths[0..b], c[HEAD])
 }
 
 // The first entry and the last of n.
@@ -116,8 +129,9 @@ fn case(k: usize) -> Writing {
     longs(k as u64 - 89)
 }
 
-pub fn all() {
+pub fn all<W: Write>(out: &mut W) -> io::Result<()> {
     for k in 0..170usize {
-        run(case(k));
+        run(out, case(k))?;
     }
+    Ok(())
 }

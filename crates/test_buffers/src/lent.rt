@@ -1,4 +1,5 @@
 // What is wrong with the buffers of a call. Their lengths are a pattern, a number whose digits to base 3 are those of the buffers, that of the first one last.
+use std::io::{self, Write};
 
 // The length by the last digit: 0 is the stated one, 1 one less, 2 one more. No buffer is stated to be empty, or as long as a space.
 pub fn length(stated: usize, pattern: u64) -> usize {
@@ -12,8 +13,9 @@ pub fn length(stated: usize, pattern: u64) -> usize {
     stated
 }
 
-pub fn say_spare(spare: u8) {
+pub fn say_spare<W: Write>(out: &mut W, spare: u8) -> io::Result<()> {
     if spare != 0 {
-        test_print::text(b" with a spare bit set");
+        test_print::text(out, b" with a spare bit set")?;
     }
+    Ok(())
 }

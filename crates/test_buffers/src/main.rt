@@ -8,6 +8,8 @@ mod captures;
 mod lent;
 mod windows;
 
+use std::io::{self, BufWriter, Write};
+
 #[derive(Clone, Copy)]
 enum Call {
     Code,
@@ -21,43 +23,52 @@ enum Call {
 }
 
 // The first number of a call, or of mapping and unmapping the count, may be outside its set.
-fn line(call: Call, number: u64, spare: u8, p: u64) {
+fn line<W: Write>(out: &mut W, call: Call, number: u64, spare: u8, p: u64) -> io::Result<()> {
     match call {
-        Call::Code => captures::code(number, p),
-        Call::Read => captures::read(number, p),
-        Call::Edit => captures::edit(number, spare, p),
-        Call::Part => captures::part(number, p),
-        Call::Map => windows::map(number, spare, p),
-        Call::Unmap => windows::unmap(number, p),
-        Call::Write => archives::write(number, p),
-        Call::Open => archives::read(p),
+        Call::Code => captures::code(out, number, p),
+        Call::Read => captures::read(out, number, p),
+        Call::Edit => captures::edit(out, number, spare, p),
+        Call::Part => captures::part(out, number, p),
+        Call::Map => windows::map(out, number, spare, p),
+        Call::Unmap => windows::unmap(out, number, p),
+        Call::Write => archives::write(out, number, p),
+        Call::Open => archives::read(out, p),
     }
 }
 
 // A call in as many patterns as its buffers have.
-fn lines(call: Call, number: u64, spare: u8, patterns: u64) {
+fn lines<W: Write>(
+    out: &mut W,
+    call: Call,
+    number: u64,
+    spare: u8,
+    patterns: u64,
+) -> io::Result<()> {
     for p in 0..patterns {
-        line(call, number, spare, p);
+        line(out, call, number, spare, p)?;
     }
+    Ok(())
 }
 
 // Where a number is outside its set every digit of the pattern is 1.
-fn main() {
-    lines(Call::Code, 1, 0, 27);
-    line(Call::Code, 0, 0, 13);
-    lines(Call::Read, 1, 0, 27);
-    line(Call::Read, 0, 0, 13);
-    lines(Call::Edit, 1, 0, 81);
-    lines(Call::Edit, 1, 1, 81);
-    line(Call::Edit, 0, 0, 40);
-    lines(Call::Part, 1, 0, 3);
-    line(Call::Part, 0, 0, 1);
-    lines(Call::Map, 10216, 0, 9);
-    lines(Call::Map, 10216, 1, 9);
-    line(Call::Map, 10221, 0, 4);
-    lines(Call::Unmap, 10216, 0, 9);
-    line(Call::Unmap, 10221, 0, 4);
-    lines(Call::Write, 2, 0, 27);
-    line(Call::Write, 0, 0, 13);
-    lines(Call::Open, 0, 0, 81);
+fn main(rt: HostRuntime) -> io::Result<()> {
+    let mut out = BufWriter::new(rt.alloc(), io::writer(&rt))?;
+    lines(&mut out, Call::Code, 1, 0, 27)?;
+    line(&mut out, Call::Code, 0, 0, 13)?;
+    lines(&mut out, Call::Read, 1, 0, 27)?;
+    line(&mut out, Call::Read, 0, 0, 13)?;
+    lines(&mut out, Call::Edit, 1, 0, 81)?;
+    lines(&mut out, Call::Edit, 1, 1, 81)?;
+    line(&mut out, Call::Edit, 0, 0, 40)?;
+    lines(&mut out, Call::Part, 1, 0, 3)?;
+    line(&mut out, Call::Part, 0, 0, 1)?;
+    lines(&mut out, Call::Map, 10216, 0, 9)?;
+    lines(&mut out, Call::Map, 10216, 1, 9)?;
+    line(&mut out, Call::Map, 10221, 0, 4)?;
+    lines(&mut out, Call::Unmap, 10216, 0, 9)?;
+    line(&mut out, Call::Unmap, 10221, 0, 4)?;
+    lines(&mut out, Call::Write, 2, 0, 27)?;
+    line(&mut out, Call::Write, 0, 0, 13)?;
+    lines(&mut out, Call::Open, 0, 0, 81)?;
+    out.flush()
 }

@@ -4,86 +4,126 @@ ghost use Rattle.std.specs.Prelude.{◌≡◌, length};
 ghost use Rattle.buffer_sizes.specs.Lengths.{large_bytes};
 
 use answer::Answer;
+use std::io::{self, Write};
 
-fn say(r: Answer, before: u64, after: u64) {
-    test_print::outcome(b": ", r);
+fn say<W: Write>(out: &mut W, r: Answer, before: u64, after: u64) -> io::Result<()> {
+    test_print::outcome(out, b": ", r)?;
     if r.number == 0 {
-        test_print::hex(b" digest ", after);
+        test_print::hex(out, b" digest ", after)?;
     } else {
-        test_print::change(b"", before, after);
+        test_print::change(out, b"", before, after)?;
     }
-    test_print::end();
+    test_print::end(out)
 }
 
 // The capture stands full of bytes made from the seed 999.
-fn code_into(n: u64, m0: u64, info: &[u8], parity: &[u8], capture: &mut [u8]) {
+fn code_into<W: Write>(
+    out: &mut W,
+    n: u64,
+    m0: u64,
+    info: &[u8],
+    parity: &[u8],
+    capture: &mut [u8],
+) -> io::Result<()> {
     test_input::fill(999, capture);
     let before = test_data::digest(capture);
     let r = capture::code(n, m0, info, parity, capture);
-    say(r, before, test_data::digest(capture));
+    say(out, r, before, test_data::digest(capture))
 }
 
-fn code_from(n: u64, m0: u64, info: usize, parity: usize, capture: usize, room: &[u8])
+fn code_from<W: Write>(
+    out: &mut W,
+    n: u64,
+    m0: u64,
+    info: usize,
+    parity: usize,
+    capture: usize,
+    room: &[u8],
+) -> io::Result<()>
     requires { large_bytes ≡ length room.now }
 {
     let mut space = buffer_sizes::large_space();
     let a = info % 1300000;
     let b = a + parity % 100000;
     let k = capture % (buffer_sizes::LARGE_BYTES + 1);
-    code_into(n, m0, &room[0..a], &room[a..b], &mut space[0..k]);
+    code_into(out, n, m0, &room[0..a], &room[a..b], &mut space[0..k])
 }
 
 // Codes with buffers of the lengths given. The information is made from the seed 100 + n, and the parity behind it.
-fn code(n: u64, m0: u64, info: usize, parity: usize, capture: usize) {
+fn code<W: Write>(
+    out: &mut W,
+    n: u64,
+    m0: u64,
+    info: usize,
+    parity: usize,
+    capture: usize,
+) -> io::Result<()> {
     let mut room = buffer_sizes::large_space();
     test_input::fill_room(n, &mut room);
-    code_from(n, m0, info, parity, capture, &room);
+    code_from(out, n, m0, info, parity, capture, &room)
 }
 
-fn granted(n: u64, m0: u64) {
-    test_print::frames(n);
-    test_print::number(b" m0 ", m0);
+fn granted<W: Write>(out: &mut W, n: u64, m0: u64) -> io::Result<()> {
+    test_print::frames(out, n)?;
+    test_print::number(out, b" m0 ", m0)?;
     code(
+        out,
         n,
         m0,
         buffer_sizes::information(n),
         buffer_sizes::parity(n),
         buffer_sizes::capture(n),
-    );
+    )
 }
 
-fn refused(name: &[u8], n: u64, m0: u64, info: usize, parity: usize, capture: usize) {
-    test_print::text(name);
-    code(n, m0, info, parity, capture);
+fn refused<W: Write>(
+    out: &mut W,
+    name: &[u8],
+    n: u64,
+    m0: u64,
+    info: usize,
+    parity: usize,
+    capture: usize,
+) -> io::Result<()> {
+    test_print::text(out, name)?;
+    code(out, n, m0, info, parity, capture)
 }
 
-fn numbers() {
-    refused(b"N 0", 0, 7, 152915, 10240, 183296);
-    refused(b"N 9", 9, 7, 152915, 10240, 183296);
-    refused(b"m0 128", 1, 128, 152915, 10240, 183296);
+fn numbers<W: Write>(out: &mut W) -> io::Result<()> {
+    refused(out, b"N 0", 0, 7, 152915, 10240, 183296)?;
+    refused(out, b"N 9", 9, 7, 152915, 10240, 183296)?;
+    refused(out, b"m0 128", 1, 128, 152915, 10240, 183296)
 }
 
-fn lengths() {
-    refused(b"information one byte short", 1, 7, 152914, 10240, 183296);
-    refused(b"parity one byte long", 1, 7, 152915, 10241, 183296);
-    refused(b"capture one byte short", 1, 7, 152915, 10240, 183295);
+fn lengths<W: Write>(out: &mut W) -> io::Result<()> {
+    refused(
+        out,
+        b"information one byte short",
+        1,
+        7,
+        152914,
+        10240,
+        183296,
+    )?;
+    refused(out, b"parity one byte long", 1, 7, 152915, 10241, 183296)?;
+    refused(out, b"capture one byte short", 1, 7, 152915, 10240, 183295)
 }
 
 // The first m0, those on both sides of 64, and the last two.
-fn edges() {
-    granted(1, 0);
-    granted(1, 63);
-    granted(1, 64);
-    granted(1, 126);
-    granted(1, 127);
+fn edges<W: Write>(out: &mut W) -> io::Result<()> {
+    granted(out, 1, 0)?;
+    granted(out, 1, 63)?;
+    granted(out, 1, 64)?;
+    granted(out, 1, 126)?;
+    granted(out, 1, 127)
 }
 
-pub fn cases() {
-    granted(1, 7);
-    granted(2, 14);
-    granted(3, 21);
-    granted(8, 56);
-    edges();
-    numbers();
-    lengths();
+pub fn cases<W: Write>(out: &mut W) -> io::Result<()> {
+    granted(out, 1, 7)?;
+    granted(out, 2, 14)?;
+    granted(out, 3, 21)?;
+    granted(out, 8, 56)?;
+    edges(out)?;
+    numbers(out)?;
+    lengths(out)
 }

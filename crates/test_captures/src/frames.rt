@@ -5,25 +5,35 @@ ghost use Rattle.std.specs.Prelude.{◌≡◌, length};
 ghost use Rattle.buffer_sizes.specs.Lengths.{large_bytes};
 
 use answer::Answer;
+use std::io::{self, Write};
 
 // The client blocks of a super frame.
 const BLOCKS: u64 = sizes::SUPER_CLIENT_BLOCKS as u64;
 
-fn say_code(n: u64, r: Answer, before: u64, after: u64) {
-    test_print::frames(n);
-    test_print::outcome(b" code: ", r);
-    test_print::change(b" capture", before, after);
+fn say_code<W: Write>(out: &mut W, n: u64, r: Answer, before: u64, after: u64) -> io::Result<()> {
+    test_print::frames(out, n)?;
+    test_print::outcome(out, b" code: ", r)?;
+    test_print::change(out, b" capture", before, after)
 }
 
-fn say_read(n: u64, r: Answer, before: u64, after: u64, parity_before: u64, parity_after: u64) {
-    test_print::frames(n);
-    test_print::outcome(b" read, one flip in every word: ", r);
-    test_print::change(b" information", before, after);
-    test_print::change(b" parity", parity_before, parity_after);
-    test_print::end();
+fn say_read<W: Write>(
+    out: &mut W,
+    n: u64,
+    r: Answer,
+    before: u64,
+    after: u64,
+    parity_before: u64,
+    parity_after: u64,
+) -> io::Result<()> {
+    test_print::frames(out, n)?;
+    test_print::outcome(out, b" read, one flip in every word: ", r)?;
+    test_print::change(out, b" information", before, after)?;
+    test_print::change(out, b" parity", parity_before, parity_after)?;
+    test_print::end(out)
 }
 
-fn say_edit(
+fn say_edit<W: Write>(
+    out: &mut W,
     n: u64,
     block: u64,
     r: Answer,
@@ -31,62 +41,81 @@ fn say_edit(
     after: u64,
     list_before: u64,
     list_after: u64,
-) {
-    test_print::frames(n);
-    test_print::number(b" edit of block ", block);
-    test_print::outcome(b": ", r);
-    test_print::change(b" capture", before, after);
-    test_print::change(b" list", list_before, list_after);
-    test_print::end();
+) -> io::Result<()> {
+    test_print::frames(out, n)?;
+    test_print::number(out, b" edit of block ", block)?;
+    test_print::outcome(out, b": ", r)?;
+    test_print::change(out, b" capture", before, after)?;
+    test_print::change(out, b" list", list_before, list_after)?;
+    test_print::end(out)
 }
 
-fn code_into(n: u64, info: &[u8], parity: &[u8], capture: &mut [u8]) {
+fn code_into<W: Write>(
+    out: &mut W,
+    n: u64,
+    info: &[u8],
+    parity: &[u8],
+    capture: &mut [u8],
+) -> io::Result<()> {
     let before = test_data::digest(capture);
     let r = capture::code(n, 7, info, parity, capture);
-    say_code(n, r, before, test_data::digest(capture));
-    test_print::inputs(test_data::digest(info), test_data::digest(parity));
+    say_code(out, n, r, before, test_data::digest(capture))?;
+    test_print::inputs(out, test_data::digest(info), test_data::digest(parity))
 }
 
-fn code_from(n: u64, m: u64, room: &[u8], capture: &mut [u8])
+fn code_from<W: Write>(
+    out: &mut W,
+    n: u64,
+    m: u64,
+    room: &[u8],
+    capture: &mut [u8],
+) -> io::Result<()>
     requires { large_bytes ≡ length room.now }
 {
     let a = buffer_sizes::information(m);
     let b = a + buffer_sizes::parity(m);
-    code_into(n, &room[0..a], &room[a..b], capture);
+    code_into(out, n, &room[0..a], &room[a..b], capture)
 }
 
 // With the information and the parity of m super frames, one made behind the other.
-fn code(n: u64, m: u64, capture: &mut [u8]) {
+fn code<W: Write>(out: &mut W, n: u64, m: u64, capture: &mut [u8]) -> io::Result<()> {
     let mut room = buffer_sizes::large_space();
     test_input::fill(100 + n % 10, &mut room);
-    code_from(n, m, &room, capture);
+    code_from(out, n, m, &room, capture)
 }
 
-fn read_into(n: u64, capture: &[u8], info: &mut [u8], parity: &mut [u8]) {
+fn read_into<W: Write>(
+    out: &mut W,
+    n: u64,
+    capture: &[u8],
+    info: &mut [u8],
+    parity: &mut [u8],
+) -> io::Result<()> {
     let before = test_data::digest(info);
     let parity_before = test_data::digest(parity);
     let r = capture::read(n, 7, capture, info, parity);
     say_read(
+        out,
         n,
         r,
         before,
         test_data::digest(info),
         parity_before,
         test_data::digest(parity),
-    );
+    )
 }
 
 // Into zeros.
-fn read(n: u64, m: u64, capture: &[u8]) {
+fn read<W: Write>(out: &mut W, n: u64, m: u64, capture: &[u8]) -> io::Result<()> {
     let mut info = buffer_sizes::large_space();
     let mut parity = buffer_sizes::small_space();
     let a = buffer_sizes::information(m);
     let b = buffer_sizes::parity(m);
-    read_into(n, capture, &mut info[0..a], &mut parity[0..b]);
+    read_into(out, n, capture, &mut info[0..a], &mut parity[0..b])
 }
 
 // The seven bits behind the 257 are zero.
-fn edit(n: u64, block: u64, capture: &mut [u8]) {
+fn edit<W: Write>(out: &mut W, n: u64, block: u64, capture: &mut [u8]) -> io::Result<()> {
     let bits = [128u8; sizes::BLOCK_BYTES];
     let parity = [90u8; sizes::PARITY_BYTES];
     let mut list = [7u64; sizes::LIST_LENGTH];
@@ -94,6 +123,7 @@ fn edit(n: u64, block: u64, capture: &mut [u8]) {
     let list_before = test_data::digest_numbers(&list);
     let r = capture::edit(n, block, &bits, &parity, capture, &mut list);
     say_edit(
+        out,
         n,
         block,
         r,
@@ -101,43 +131,45 @@ fn edit(n: u64, block: u64, capture: &mut [u8]) {
         test_data::digest(capture),
         list_before,
         test_data::digest_numbers(&list),
-    );
+    )
 }
 
 // Flipped twice the bits are as they were.
-fn flipped(n: u64, m: u64, capture: &mut [u8]) {
+fn flipped<W: Write>(out: &mut W, n: u64, m: u64, capture: &mut [u8]) -> io::Result<()> {
     test_flip::flip_in_all(capture);
-    read(n, m, capture);
+    read(out, n, m, capture)?;
     test_flip::flip_in_all(capture);
+    Ok(())
 }
 
 // The last client block, and the first past it; a block far past the end for none.
-fn edited(n: u64, capture: &mut [u8]) {
+fn edited<W: Write>(out: &mut W, n: u64, capture: &mut [u8]) -> io::Result<()> {
     edit(
+        out,
         n,
         (BLOCKS * (n % 10) + (10 * BLOCKS - 1)) % (10 * BLOCKS),
         capture,
-    );
-    edit(n, BLOCKS * (n % 10), capture);
+    )?;
+    edit(out, n, BLOCKS * (n % 10), capture)
 }
 
-fn case(n: u64, m: u64, capture: &mut [u8]) {
-    code(n, m, capture);
-    flipped(n, m, capture);
-    edited(n, capture);
+fn case<W: Write>(out: &mut W, n: u64, m: u64, capture: &mut [u8]) -> io::Result<()> {
+    code(out, n, m, capture)?;
+    flipped(out, n, m, capture)?;
+    edited(out, n, capture)
 }
 
 // With the buffers of m super frames.
-fn sized(n: u64, m: u64) {
+fn sized<W: Write>(out: &mut W, n: u64, m: u64) -> io::Result<()> {
     let mut capture = buffer_sizes::large_space();
     let k = buffer_sizes::capture(m);
-    case(n, m, &mut capture[0..k]);
+    case(out, n, m, &mut capture[0..k])
 }
 
-pub fn cases() {
-    sized(0, 1);
+pub fn cases<W: Write>(out: &mut W) -> io::Result<()> {
+    sized(out, 0, 1)?;
     for m in 1..9u64 {
-        sized(m, m);
+        sized(out, m, m)?;
     }
-    sized(9, 8);
+    sized(out, 9, 8)
 }

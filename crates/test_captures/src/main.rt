@@ -7,9 +7,13 @@ mod frames;
 mod parts;
 mod readings;
 
-fn main() {
-    coded::cases();
-    readings::cases();
-    parts::cases();
-    frames::cases();
+use std::io::{self, BufWriter, Write};
+
+fn main(rt: HostRuntime) -> io::Result<()> {
+    let mut out = BufWriter::new(rt.alloc(), io::writer(&rt))?;
+    coded::cases(&mut out)?;
+    readings::cases(&mut out)?;
+    parts::cases(&mut out)?;
+    frames::cases(&mut out)?;
+    out.flush()
 }

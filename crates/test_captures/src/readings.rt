@@ -1,6 +1,7 @@
 // Reads captures of 1 and of 8 super frames: as they were coded, with one bit flipped in every word, refused by each number at its first and at its
 // last place, by two numbers at once, and for numbers and lengths. Digests show what the buffers hold after each call.
 use answer::Answer;
+use std::io::{self, Write};
 
 // A length is taken below these: a space, and no more, has room for it.
 const LARGE_LENGTHS: usize = buffer_sizes::LARGE_BYTES + 1;
@@ -35,44 +36,59 @@ fn before(info: &mut [u8], parity: &mut [u8]) {
 }
 
 // Writes what that is, at the lengths given.
-fn say_before(info: usize, parity: usize) {
-    test_print::inputs(digest_of(998, 0, info), digest_of(997, 0, parity));
+fn say_before<W: Write>(out: &mut W, info: usize, parity: usize) -> io::Result<()> {
+    test_print::inputs(out, digest_of(998, 0, info), digest_of(997, 0, parity))
 }
 
-fn say(r: Answer, info: &[u8], parity: &[u8]) {
-    test_print::outcome(b": ", r);
-    test_print::inputs(test_data::digest(info), test_data::digest(parity));
+fn say<W: Write>(out: &mut W, r: Answer, info: &[u8], parity: &[u8]) -> io::Result<()> {
+    test_print::outcome(out, b": ", r)?;
+    test_print::inputs(out, test_data::digest(info), test_data::digest(parity))
 }
 
-fn read_in(n: u64, m0: u64, capture: &[u8], info: &mut [u8], parity: &mut [u8]) {
+fn read_in<W: Write>(
+    out: &mut W,
+    n: u64,
+    m0: u64,
+    capture: &[u8],
+    info: &mut [u8],
+    parity: &mut [u8],
+) -> io::Result<()> {
     before(info, parity);
     let r = capture::read(n, m0, capture, info, parity);
-    say(r, info, parity);
+    say(out, r, info, parity)
 }
 
 // Reads into buffers of the lengths given and writes what came.
-fn read(n: u64, m0: u64, capture: &[u8], info: usize, parity: usize) {
+fn read<W: Write>(
+    out: &mut W,
+    n: u64,
+    m0: u64,
+    capture: &[u8],
+    info: usize,
+    parity: usize,
+) -> io::Result<()> {
     let mut i = buffer_sizes::large_space();
     let mut p = buffer_sizes::small_space();
     let a = info % LARGE_LENGTHS;
     let b = parity % SMALL_LENGTHS;
-    read_in(n, m0, capture, &mut i[0..a], &mut p[0..b]);
+    read_in(out, n, m0, capture, &mut i[0..a], &mut p[0..b])
 }
 
 // The same with buffers of the stated lengths.
-fn read_stated(n: u64, m0: u64, capture: &[u8]) {
+fn read_stated<W: Write>(out: &mut W, n: u64, m0: u64, capture: &[u8]) -> io::Result<()> {
     read(
+        out,
         n,
         m0,
         capture,
         buffer_sizes::information(n),
         buffer_sizes::parity(n),
-    );
+    )
 }
 
-fn name(n: u64, what: &[u8]) {
-    test_print::frames(n);
-    test_print::text(what);
+fn name<W: Write>(out: &mut W, n: u64, what: &[u8]) -> io::Result<()> {
+    test_print::frames(out, n)?;
+    test_print::text(out, what)
 }
 
 // ---- flips
@@ -108,224 +124,296 @@ fn last_block(n: u64) -> usize {
     ((sizes::FEC_BLOCKS as u64 * (n % 9)) as usize + (MOST_BLOCKS - 1)) % MOST_BLOCKS
 }
 
-fn flipped_in(n: u64, m0: u64, w: usize, v: [u8; 16], x: usize, u: [u8; 16], capture: &mut [u8]) {
+fn flipped_in<W: Write>(
+    out: &mut W,
+    n: u64,
+    m0: u64,
+    w: usize,
+    v: [u8; 16],
+    x: usize,
+    u: [u8; 16],
+    capture: &mut [u8],
+) -> io::Result<()> {
     test_input::code(n, capture);
     test_flip::flip(capture, w, v);
     test_flip::flip(capture, x, u);
-    read_stated(n, m0, capture);
+    read_stated(out, n, m0, capture)
 }
 
-fn counted_from(n: u64, m0: u64, w: usize, v: [u8; 16], x: usize, u: [u8; 16]) {
+fn counted_from<W: Write>(
+    out: &mut W,
+    n: u64,
+    m0: u64,
+    w: usize,
+    v: [u8; 16],
+    x: usize,
+    u: [u8; 16],
+) -> io::Result<()> {
     let mut capture = buffer_sizes::large_space();
     let k = buffer_sizes::capture(n);
-    flipped_in(n, m0, w, v, x, u, &mut capture[0..k]);
+    flipped_in(out, n, m0, w, v, x, u, &mut capture[0..k])
 }
 
 // Reads with the bits of v flipped in word w and those of u in word x.
-fn flipped(n: u64, w: usize, v: [u8; 16], x: usize, u: [u8; 16]) {
-    counted_from(n, test_input::first_number(n), w, v, x, u);
+fn flipped<W: Write>(
+    out: &mut W,
+    n: u64,
+    w: usize,
+    v: [u8; 16],
+    x: usize,
+    u: [u8; 16],
+) -> io::Result<()> {
+    counted_from(out, n, test_input::first_number(n), w, v, x, u)
 }
 
-fn once(n: u64, w: usize, v: [u8; 16]) {
-    flipped(n, w, v, w, NONE);
+fn once<W: Write>(out: &mut W, n: u64, w: usize, v: [u8; 16]) -> io::Result<()> {
+    flipped(out, n, w, v, w, NONE)
 }
 
 // Bit p of super frame f flipped.
-fn bit_flipped(n: u64, f: usize, p: usize) {
-    once(n, word_of(f, p), sound(p));
+fn bit_flipped<W: Write>(out: &mut W, n: u64, f: usize, p: usize) -> io::Result<()> {
+    once(out, n, word_of(f, p), sound(p))
 }
 
 // Bit p of super frame f flipped, and bit q of super frame g.
-fn both_flipped(n: u64, f: usize, p: usize, g: usize, q: usize) {
-    flipped(n, word_of(f, p), sound(p), word_of(g, q), sound(q));
+fn both_flipped<W: Write>(
+    out: &mut W,
+    n: u64,
+    f: usize,
+    p: usize,
+    g: usize,
+    q: usize,
+) -> io::Result<()> {
+    flipped(out, n, word_of(f, p), sound(p), word_of(g, q), sound(q))
 }
 
 // ---- one number applies
 
-fn as_coded(n: u64) {
-    name(n, b" undamaged");
-    once(n, 0, NONE);
+fn as_coded<W: Write>(out: &mut W, n: u64) -> io::Result<()> {
+    name(out, n, b" undamaged")?;
+    once(out, n, 0, NONE)
 }
 
 // Number 6. One of the neighbours of m0 has the same half, so that only FEC block 1 tells.
-fn counted_otherwise(n: u64) {
+fn counted_otherwise<W: Write>(out: &mut W, n: u64) -> io::Result<()> {
     let m0 = test_input::first_number(n) % 128;
-    name(n, b" m0 one more");
-    counted_from(n, (m0 + 1) % 128, 0, NONE, 0, NONE);
-    name(n, b" m0 one less");
-    counted_from(n, (m0 + 127) % 128, 0, NONE, 0, NONE);
-    name(n, b" m0 64 more");
-    counted_from(n, (m0 + 64) % 128, 0, NONE, 0, NONE);
+    name(out, n, b" m0 one more")?;
+    counted_from(out, n, (m0 + 1) % 128, 0, NONE, 0, NONE)?;
+    name(out, n, b" m0 one less")?;
+    counted_from(out, n, (m0 + 127) % 128, 0, NONE, 0, NONE)?;
+    name(out, n, b" m0 64 more")?;
+    counted_from(out, n, (m0 + 64) % 128, 0, NONE, 0, NONE)
 }
 
-fn all_in(n: u64, capture: &mut [u8]) {
+fn all_in<W: Write>(out: &mut W, n: u64, capture: &mut [u8]) -> io::Result<()> {
     test_input::code(n, capture);
     test_flip::flip_in_all(capture);
-    read_stated(n, test_input::first_number(n), capture);
+    read_stated(out, n, test_input::first_number(n), capture)
 }
 
-fn every_word(n: u64) {
+fn every_word<W: Write>(out: &mut W, n: u64) -> io::Result<()> {
     let mut capture = buffer_sizes::large_space();
     let k = buffer_sizes::capture(n);
-    name(n, b" one flip in every word");
-    all_in(n, &mut capture[0..k]);
+    name(out, n, b" one flip in every word")?;
+    all_in(out, n, &mut capture[0..k])
 }
 
 // Number 4: word w, which is filler, beyond repair.
-fn beyond(n: u64, w: usize) {
-    name(n, b" two flips");
-    test_print::number(b" in word ", w as u64);
-    once(n, w, two_bits());
+fn beyond<W: Write>(out: &mut W, n: u64, w: usize) -> io::Result<()> {
+    name(out, n, b" two flips")?;
+    test_print::number(out, b" in word ", w as u64)?;
+    once(out, n, w, two_bits())
 }
 
 // Number 5: word w, which is filler, not zero.
-fn filler(n: u64, w: usize) {
-    name(n, b" filler not zero");
-    test_print::number(b" in word ", w as u64);
-    once(n, w, sound(0));
+fn filler<W: Write>(out: &mut W, n: u64, w: usize) -> io::Result<()> {
+    name(out, n, b" filler not zero")?;
+    test_print::number(out, b" in word ", w as u64)?;
+    once(out, n, w, sound(0))
 }
 
-fn words(n: u64) {
-    beyond(n, 0);
-    beyond(n, last_word(n));
-    filler(n, 0);
-    filler(n, last_word(n));
+fn words<W: Write>(out: &mut W, n: u64) -> io::Result<()> {
+    beyond(out, n, 0)?;
+    beyond(out, n, last_word(n))?;
+    filler(out, n, 0)?;
+    filler(out, n, last_word(n))
 }
 
-fn name_bit(n: u64, i: usize, of: &[u8], place: usize) {
-    name(n, b" turned bit ");
-    test_print::number(b"", i as u64);
-    test_print::number(of, place as u64);
+fn name_bit<W: Write>(out: &mut W, n: u64, i: usize, of: &[u8], place: usize) -> io::Result<()> {
+    name(out, n, b" turned bit ")?;
+    test_print::number(out, b"", i as u64)?;
+    test_print::number(out, of, place as u64)
 }
 
 // Numbers 6 and 7: bit i of FEC block t.
-fn block(n: u64, t: usize, i: usize) {
-    name_bit(n, i, b" of block ", t);
-    bit_flipped(n, t / sizes::FEC_BLOCKS, place_of(t, i));
+fn block<W: Write>(out: &mut W, n: u64, t: usize, i: usize) -> io::Result<()> {
+    name_bit(out, n, i, b" of block ", t)?;
+    bit_flipped(out, n, t / sizes::FEC_BLOCKS, place_of(t, i))
 }
 
-fn blocks(n: u64) {
-    block(n, 0, 244701);
-    block(n, last_block(n), 244696);
-    block(n, 0, 0);
-    block(n, last_block(n), 244695);
+fn blocks<W: Write>(out: &mut W, n: u64) -> io::Result<()> {
+    block(out, n, 0, 244701)?;
+    block(out, n, last_block(n), 244696)?;
+    block(out, n, 0, 0)?;
+    block(out, n, last_block(n), 244695)
 }
 
 // Number 8: bit p of super frame f.
-fn pad(n: u64, f: usize, p: usize) {
-    name_bit(n, p, b" of super frame ", f);
-    bit_flipped(n, f, p);
+fn pad<W: Write>(out: &mut W, n: u64, f: usize, p: usize) -> io::Result<()> {
+    name_bit(out, n, p, b" of super frame ", f)?;
+    bit_flipped(out, n, f, p)
 }
 
-fn pads(n: u64) {
-    pad(n, 0, 1305430);
-    pad(n, last_block(n) / sizes::FEC_BLOCKS, 1306143);
+fn pads<W: Write>(out: &mut W, n: u64) -> io::Result<()> {
+    pad(out, n, 0, 1305430)?;
+    pad(out, n, last_block(n) / sizes::FEC_BLOCKS, 1306143)
 }
 
 // ---- two numbers apply: the smaller one wins, wherever it stands
 
-fn mbas_and_crc(n: u64) {
-    name(n, b" last MBAS and first CRC wrong");
+fn mbas_and_crc<W: Write>(out: &mut W, n: u64) -> io::Result<()> {
+    name(out, n, b" last MBAS and first CRC wrong")?;
     let t = last_block(n);
-    both_flipped(n, t / sizes::FEC_BLOCKS, place_of(t, 244696), 0, 0);
+    both_flipped(out, n, t / sizes::FEC_BLOCKS, place_of(t, 244696), 0, 0)
 }
 
-fn word_and_filler(n: u64) {
-    name(n, b" last word beyond repair, first filler not zero");
-    flipped(n, last_word(n), two_bits(), 0, sound(0));
+fn word_and_filler<W: Write>(out: &mut W, n: u64) -> io::Result<()> {
+    name(out, n, b" last word beyond repair, first filler not zero")?;
+    flipped(out, n, last_word(n), two_bits(), 0, sound(0))
 }
 
-fn crc_and_pad(n: u64) {
-    name(n, b" last CRC and first pad wrong");
+fn crc_and_pad<W: Write>(out: &mut W, n: u64) -> io::Result<()> {
+    name(out, n, b" last CRC and first pad wrong")?;
     let t = last_block(n);
-    both_flipped(n, t / sizes::FEC_BLOCKS, place_of(t, 244695), 0, 1305430);
+    both_flipped(
+        out,
+        n,
+        t / sizes::FEC_BLOCKS,
+        place_of(t, 244695),
+        0,
+        1305430,
+    )
 }
 
 // One number applies twice: the smaller place wins.
-fn crc_twice(n: u64) {
-    name(n, b" CRC of block 3 and of the last wrong");
+fn crc_twice<W: Write>(out: &mut W, n: u64) -> io::Result<()> {
+    name(out, n, b" CRC of block 3 and of the last wrong")?;
     let t = last_block(n);
-    both_flipped(n, t / sizes::FEC_BLOCKS, place_of(t, 0), 0, place_of(3, 0));
+    both_flipped(
+        out,
+        n,
+        t / sizes::FEC_BLOCKS,
+        place_of(t, 0),
+        0,
+        place_of(3, 0),
+    )
 }
 
 // A filler word is looked at after repair.
-fn repaired_filler(n: u64) {
-    name(n, b" last filler not zero, its only element bit flipped");
+fn repaired_filler<W: Write>(out: &mut W, n: u64) -> io::Result<()> {
+    name(
+        out,
+        n,
+        b" last filler not zero, its only element bit flipped",
+    )?;
     let w = last_word(n);
-    flipped(n, w, sound(0), w, test_flip::bit(0));
+    flipped(out, n, w, sound(0), w, test_flip::bit(0))
 }
 
 // Nothing guards the parity.
-fn parity_flipped(n: u64) {
-    name(n, b" last parity bit turned");
+fn parity_flipped<W: Write>(out: &mut W, n: u64) -> io::Result<()> {
+    name(out, n, b" last parity bit turned")?;
     let t = last_block(n);
-    bit_flipped(n, t / sizes::FEC_BLOCKS, place_of(t, 261085));
+    bit_flipped(out, n, t / sizes::FEC_BLOCKS, place_of(t, 261085))
 }
 
 // ---- all of n super frames
 
-fn say_made(n: u64) {
+fn say_made<W: Write>(out: &mut W, n: u64) -> io::Result<()> {
     let a = buffer_sizes::information(n);
     let b = a + buffer_sizes::parity(n);
     let seed = 100 + n % 9;
-    test_print::inputs(digest_of(seed, 0, a), digest_of(seed, a, b));
+    test_print::inputs(out, digest_of(seed, 0, a), digest_of(seed, a, b))
 }
 
-fn start(n: u64) {
-    name(n, b" coded from:");
-    say_made(n);
-    name(n, b" buffers before:");
-    say_before(buffer_sizes::information(n), buffer_sizes::parity(n));
+fn start<W: Write>(out: &mut W, n: u64) -> io::Result<()> {
+    name(out, n, b" coded from:")?;
+    say_made(out, n)?;
+    name(out, n, b" buffers before:")?;
+    say_before(out, buffer_sizes::information(n), buffer_sizes::parity(n))
 }
 
-fn readings(n: u64) {
-    start(n);
-    every_word(n);
-    words(n);
-    blocks(n);
-    pads(n);
-    mbas_and_crc(n);
-    word_and_filler(n);
-    crc_and_pad(n);
-    crc_twice(n);
-    repaired_filler(n);
-    parity_flipped(n);
-    as_coded(n);
-    counted_otherwise(n);
+fn readings<W: Write>(out: &mut W, n: u64) -> io::Result<()> {
+    start(out, n)?;
+    every_word(out, n)?;
+    words(out, n)?;
+    blocks(out, n)?;
+    pads(out, n)?;
+    mbas_and_crc(out, n)?;
+    word_and_filler(out, n)?;
+    crc_and_pad(out, n)?;
+    crc_twice(out, n)?;
+    repaired_filler(out, n)?;
+    parity_flipped(out, n)?;
+    as_coded(out, n)?;
+    counted_otherwise(out, n)
 }
 
 // ---- numbers and lengths
 
-fn read_zeros(n: u64, m0: u64, capture: usize, info: usize, parity: usize) {
+fn read_zeros<W: Write>(
+    out: &mut W,
+    n: u64,
+    m0: u64,
+    capture: usize,
+    info: usize,
+    parity: usize,
+) -> io::Result<()> {
     let zeros = buffer_sizes::large_space();
     let k = capture % LARGE_LENGTHS;
-    read(n, m0, &zeros[0..k], info, parity);
+    read(out, n, m0, &zeros[0..k], info, parity)
 }
 
 // A call that is refused for its numbers or lengths, whatever the capture holds.
-fn refused(what: &[u8], n: u64, m0: u64, capture: usize, info: usize, parity: usize) {
-    test_print::text(what);
-    test_print::text(b" before:");
-    say_before(info, parity);
-    test_print::text(what);
-    read_zeros(n, m0, capture, info, parity);
+fn refused<W: Write>(
+    out: &mut W,
+    what: &[u8],
+    n: u64,
+    m0: u64,
+    capture: usize,
+    info: usize,
+    parity: usize,
+) -> io::Result<()> {
+    test_print::text(out, what)?;
+    test_print::text(out, b" before:")?;
+    say_before(out, info, parity)?;
+    test_print::text(out, what)?;
+    read_zeros(out, n, m0, capture, info, parity)
 }
 
-fn numbers() {
-    refused(b"N 0", 0, 7, 183296, 152915, 10240);
-    refused(b"N 9", 9, 7, 183296, 152915, 10240);
-    refused(b"m0 128", 1, 128, 183296, 152915, 10240);
+fn numbers<W: Write>(out: &mut W) -> io::Result<()> {
+    refused(out, b"N 0", 0, 7, 183296, 152915, 10240)?;
+    refused(out, b"N 9", 9, 7, 183296, 152915, 10240)?;
+    refused(out, b"m0 128", 1, 128, 183296, 152915, 10240)
 }
 
-fn lengths() {
-    refused(b"capture one byte short", 1, 7, 183295, 152915, 10240);
-    refused(b"information one byte long", 1, 7, 183296, 152916, 10240);
-    refused(b"parity one byte short", 1, 7, 183296, 152915, 10239);
+fn lengths<W: Write>(out: &mut W) -> io::Result<()> {
+    refused(out, b"capture one byte short", 1, 7, 183295, 152915, 10240)?;
+    refused(
+        out,
+        b"information one byte long",
+        1,
+        7,
+        183296,
+        152916,
+        10240,
+    )?;
+    refused(out, b"parity one byte short", 1, 7, 183296, 152915, 10239)
 }
 
-pub fn cases() {
-    readings(1);
-    readings(8);
-    numbers();
-    lengths();
+pub fn cases<W: Write>(out: &mut W) -> io::Result<()> {
+    readings(out, 1)?;
+    readings(out, 8)?;
+    numbers(out)?;
+    lengths(out)
 }

@@ -8,10 +8,14 @@ mod places;
 mod published;
 mod starred;
 
-fn main() {
-    starred::cases();
-    places::cases();
-    published::vectors();
-    captures::vectors();
-    mapped::vectors();
+use std::io::{self, BufWriter, Write};
+
+fn main(rt: HostRuntime) -> io::Result<()> {
+    let mut out = BufWriter::new(rt.alloc(), io::writer(&rt))?;
+    starred::cases(&mut out)?;
+    places::cases(&mut out)?;
+    published::vectors(&mut out)?;
+    captures::vectors(&mut out)?;
+    mapped::vectors(&mut out)?;
+    out.flush()
 }

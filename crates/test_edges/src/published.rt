@@ -1,86 +1,94 @@
 // The CRC's check value, the first 24 bits of the scrambler, 001 Tables 7 and 12 in their order, and the table of 002, "Multi-Block Alignment Signal".
+use std::io::{self, Write};
 
-fn check_value() {
+fn check_value<W: Write>(out: &mut W) -> io::Result<()> {
     let t = crc::table();
-    test_print::hex(b"CRC of 123456789: ", crc::crc(&t, b"123456789") as u64);
-    test_print::end();
+    test_print::hex(
+        out,
+        b"CRC of 123456789: ",
+        crc::crc(&t, b"123456789") as u64,
+    )?;
+    test_print::end(out)
 }
 
-fn scrambler() {
-    test_print::text(b"scrambler bits 0 to 23: ");
+fn scrambler<W: Write>(out: &mut W) -> io::Result<()> {
+    test_print::text(out, b"scrambler bits 0 to 23: ")?;
     let s = scrambler::sequence();
     let w = bits_copy::word_from(&s, 0);
-    test_print::byte(w[0]);
-    test_print::byte(w[1]);
-    test_print::byte(w[2]);
-    test_print::end();
+    test_print::byte(out, w[0])?;
+    test_print::byte(out, w[1])?;
+    test_print::byte(out, w[2])?;
+    test_print::end(out)
 }
 
-fn table_7_row(c: u64) {
-    test_print::number(b"Table 7: C ", c);
-    test_print::text(b" stuff");
-    test_print::stuff_runs(c);
-    test_print::end();
+fn table_7_row<W: Write>(out: &mut W, c: u64) -> io::Result<()> {
+    test_print::number(out, b"Table 7: C ", c)?;
+    test_print::text(out, b" stuff")?;
+    test_print::stuff_runs(out, c)?;
+    test_print::end(out)
 }
 
-fn table_7() {
+fn table_7<W: Write>(out: &mut W) -> io::Result<()> {
     for i in 0..7u64 {
-        table_7_row(sizes::PLACES - i);
+        table_7_row(out, sizes::PLACES - i)?;
     }
+    Ok(())
 }
 
-fn level(v: i8) {
+fn level<W: Write>(out: &mut W, v: i8) -> io::Result<()> {
     if v == -3 {
-        test_print::text(b" -3");
+        test_print::text(out, b" -3")
     } else if v == -1 {
-        test_print::text(b" -1");
+        test_print::text(out, b" -1")
     } else if v == 1 {
-        test_print::text(b" 1");
+        test_print::text(out, b" 1")
     } else if v == 3 {
-        test_print::text(b" 3");
+        test_print::text(out, b" 3")
     } else {
-        test_print::text(b" ?");
+        test_print::text(out, b" ?")
     }
 }
 
 // Four bits, and the levels that they have in the X and in the Y polarization.
-fn table_12_row(n: u8) {
-    test_print::text(b"Table 12: ");
-    test_print::four_bits(n);
+fn table_12_row<W: Write>(out: &mut W, n: u8) -> io::Result<()> {
+    test_print::text(out, b"Table 12: ")?;
+    test_print::four_bits(out, n)?;
     let s = symbol::symbol_of(n % 16 * 17);
-    level(s.xi);
-    level(s.xq);
-    level(s.yi);
-    level(s.yq);
-    test_print::end();
+    level(out, s.xi)?;
+    level(out, s.xq)?;
+    level(out, s.yi)?;
+    level(out, s.yq)?;
+    test_print::end(out)
 }
 
-fn table_12() {
+fn table_12<W: Write>(out: &mut W) -> io::Result<()> {
     for n in 0..16u8 {
-        table_12_row(n);
+        table_12_row(out, n)?;
     }
+    Ok(())
 }
 
-fn mbas_of(number: u64) {
-    test_print::number(b" ", line::mbas(number, 0) as u64);
+fn mbas_of<W: Write>(out: &mut W, number: u64) -> io::Result<()> {
+    test_print::number(out, b" ", line::mbas(number, 0) as u64)
 }
 
-fn each_mbas() {
+fn each_mbas<W: Write>(out: &mut W) -> io::Result<()> {
     for number in 0..128u64 {
-        mbas_of(number);
+        mbas_of(out, number)?;
     }
+    Ok(())
 }
 
-fn mbas() {
-    test_print::text(b"MBAS of blocks 0 to 127:");
-    each_mbas();
-    test_print::end();
+fn mbas<W: Write>(out: &mut W) -> io::Result<()> {
+    test_print::text(out, b"MBAS of blocks 0 to 127:")?;
+    each_mbas(out)?;
+    test_print::end(out)
 }
 
-pub fn vectors() {
-    check_value();
-    scrambler();
-    table_7();
-    table_12();
-    mbas();
+pub fn vectors<W: Write>(out: &mut W) -> io::Result<()> {
+    check_value(out)?;
+    scrambler(out)?;
+    table_7(out)?;
+    table_12(out)?;
+    mbas(out)
 }

@@ -6,6 +6,7 @@ ghost use Rattle.std.specs.Prelude.{◌≡◌, length};
 ghost use Rattle.buffer_sizes.specs.Lengths.{large_bytes};
 
 use answer::Answer;
+use std::io::{self, BufWriter, Write};
 use test_data::Generator;
 
 // So many bits are put at the most, and none where it is one more.
@@ -95,29 +96,31 @@ fn code(n: u64, block: u64, capture: &mut [u8]) {
 
 // ---- an edit
 
-fn say(r: Answer, capture: &[u8], list: &[u64]) {
-    test_print::outcome(b": ", r);
-    test_print::digest(b" capture ", capture);
-    test_print::hex(b" list ", test_data::digest_numbers(list));
-    test_print::end();
+fn say<W: Write>(out: &mut W, r: Answer, capture: &[u8], list: &[u64]) -> io::Result<()> {
+    test_print::outcome(out, b": ", r)?;
+    test_print::digest(out, b" capture ", capture)?;
+    test_print::hex(out, b" list ", test_data::digest_numbers(list))?;
+    test_print::end(out)
 }
 
 // Whether it was granted.
-fn edit_said(
+fn edit_said<W: Write>(
+    out: &mut W,
     n: u64,
     block: u64,
     client: &[u8],
     parity: &[u8],
     capture: &mut [u8],
     list: &mut [u64],
-) -> bool {
+) -> io::Result<bool> {
     let r = capture::edit(n, block, client, parity, capture, list);
-    say(r, capture, list);
-    r.number == 0
+    say(out, r, capture, list)?;
+    Ok(r.number == 0)
 }
 
 // Edits a block by what is made for it, in buffers of the lengths given, and writes what came.
-fn edit_lengths(
+fn edit_lengths<W: Write>(
+    out: &mut W,
     n: u64,
     block: u64,
     spare: u8,
@@ -125,19 +128,28 @@ fn edit_lengths(
     parity: usize,
     list: usize,
     capture: &mut [u8],
-) -> bool {
+) -> io::Result<bool> {
     let bits = client_of(block, spare);
     let new = parity_of(block);
     let mut words = list_of();
     let i = client % (sizes::BLOCK_BYTES + 1);
     let j = parity % (sizes::PARITY_BYTES + 1);
     let k = list % (LONG_LIST + 1);
-    edit_said(n, block, &bits[0..i], &new[0..j], capture, &mut words[0..k])
+    edit_said(
+        out,
+        n,
+        block,
+        &bits[0..i],
+        &new[0..j],
+        capture,
+        &mut words[0..k],
+    )
 }
 
 // The same with buffers of the stated lengths, in the capture of one super frame.
-fn edit(block: u64, spare: u8, capture: &mut [u8]) -> bool {
+fn edit<W: Write>(out: &mut W, block: u64, spare: u8, capture: &mut [u8]) -> io::Result<bool> {
     edit_lengths(
+        out,
         1,
         block,
         spare,
@@ -148,17 +160,17 @@ fn edit(block: u64, spare: u8, capture: &mut [u8]) -> bool {
     )
 }
 
-fn name_block(n: u64, block: u64) {
-    test_print::frames(n);
-    test_print::number(b" block ", block);
+fn name_block<W: Write>(out: &mut W, n: u64, block: u64) -> io::Result<()> {
+    test_print::frames(out, n)?;
+    test_print::number(out, b" block ", block)
 }
 
-fn say_truth(what: &[u8], truth: bool) {
-    test_print::text(what);
+fn say_truth<W: Write>(out: &mut W, what: &[u8], truth: bool) -> io::Result<()> {
+    test_print::text(out, what)?;
     if truth {
-        test_print::text(b"yes");
+        test_print::text(out, b"yes")
     } else {
-        test_print::text(b"no");
+        test_print::text(out, b"no")
     }
 }
 
@@ -205,16 +217,17 @@ fn reads_back(n: u64, block: u64, capture: &[u8]) -> bool {
     reads_into(n, block, capture, &mut info[0..a], &mut parity[0..b])
 }
 
-fn compare(n: u64, block: u64, capture: &[u8]) {
-    name_block(n, block);
-    say_truth(b": as coded afresh ", is_afresh(n, block, capture));
-    say_truth(b" reads back ", reads_back(n, block, capture));
-    test_print::end();
+fn compare<W: Write>(out: &mut W, n: u64, block: u64, capture: &[u8]) -> io::Result<()> {
+    name_block(out, n, block)?;
+    say_truth(out, b": as coded afresh ", is_afresh(n, block, capture))?;
+    say_truth(out, b" reads back ", reads_back(n, block, capture))?;
+    test_print::end(out)
 }
 
 // ---- edits of a capture as it was coded
 
-fn edit_coded(
+fn edit_coded<W: Write>(
+    out: &mut W,
     frames: u64,
     n: u64,
     block: u64,
@@ -223,18 +236,29 @@ fn edit_coded(
     parity: usize,
     list: usize,
     capture: &mut [u8],
-) {
+) -> io::Result<()> {
     code(frames, NO_BLOCK, capture);
-    if edit_lengths(n, block, spare, client, parity, list, capture) {
-        compare(frames, block, capture);
+    if edit_lengths(out, n, block, spare, client, parity, list, capture)? {
+        compare(out, frames, block, capture)?;
     }
+    Ok(())
 }
 
 // Edits a block of n super frames in a capture that has as many as `frames` says. A granted edit is compared with coding afresh and read back.
-fn edited(frames: u64, n: u64, block: u64, spare: u8, client: usize, parity: usize, list: usize) {
+fn edited<W: Write>(
+    out: &mut W,
+    frames: u64,
+    n: u64,
+    block: u64,
+    spare: u8,
+    client: usize,
+    parity: usize,
+    list: usize,
+) -> io::Result<()> {
     let mut capture = buffer_sizes::large_space();
     let k = buffer_sizes::capture(frames);
     edit_coded(
+        out,
         frames,
         n,
         block,
@@ -243,13 +267,14 @@ fn edited(frames: u64, n: u64, block: u64, spare: u8, client: usize, parity: usi
         parity,
         list,
         &mut capture[0..k],
-    );
+    )
 }
 
 // All is as stated, but for the numbers.
-fn numbered(frames: u64, n: u64, block: u64) {
-    name_block(n, block);
+fn numbered<W: Write>(out: &mut W, frames: u64, n: u64, block: u64) -> io::Result<()> {
+    name_block(out, n, block)?;
     edited(
+        out,
         frames,
         n,
         block,
@@ -257,32 +282,40 @@ fn numbered(frames: u64, n: u64, block: u64) {
         sizes::BLOCK_BYTES,
         sizes::PARITY_BYTES,
         sizes::LIST_LENGTH,
-    );
+    )
 }
 
-fn grant(n: u64, block: u64) {
-    numbered(n, n, block);
+fn grant<W: Write>(out: &mut W, n: u64, block: u64) -> io::Result<()> {
+    numbered(out, n, n, block)
 }
 
-fn say_coded(n: u64, capture: &mut [u8]) {
+fn say_coded<W: Write>(out: &mut W, n: u64, capture: &mut [u8]) -> io::Result<()> {
     code(n, NO_BLOCK, capture);
-    test_print::frames(n);
-    test_print::digest(b" coded: ", capture);
-    test_print::end();
+    test_print::frames(out, n)?;
+    test_print::digest(out, b" coded: ", capture)?;
+    test_print::end(out)
 }
 
 // The capture as it was coded, and the first block past its end.
-fn past_end(n: u64) {
+fn past_end<W: Write>(out: &mut W, n: u64) -> io::Result<()> {
     let mut capture = buffer_sizes::large_space();
     let k = buffer_sizes::capture(n);
-    say_coded(n, &mut capture[0..k]);
-    numbered(n, n, sizes::SUPER_CLIENT_BLOCKS as u64 * (n % 9));
+    say_coded(out, n, &mut capture[0..k])?;
+    numbered(out, n, n, sizes::SUPER_CLIENT_BLOCKS as u64 * (n % 9))
 }
 
 // Refused for its lengths or its spare bits: an edit of block 6 in the capture of one super frame.
-fn refused(what: &[u8], n: u64, spare: u8, client: usize, parity: usize, list: usize) {
-    test_print::text(what);
-    edited(1, n, 6, spare, client, parity, list);
+fn refused<W: Write>(
+    out: &mut W,
+    what: &[u8],
+    n: u64,
+    spare: u8,
+    client: usize,
+    parity: usize,
+    list: usize,
+) -> io::Result<()> {
+    test_print::text(out, what)?;
+    edited(out, 1, n, 6, spare, client, parity, list)
 }
 
 // ---- edits of block 6 in a capture with flipped bits
@@ -292,73 +325,89 @@ fn flip_two(w: usize, i: usize, x: usize, j: usize, capture: &mut [u8]) {
     test_flip::flip(capture, x, test_flip::bit(j));
 }
 
-fn name_beside(w: usize) {
-    test_print::number(b"word ", w as u64);
-    test_print::text(b" wrong but not listed");
+fn name_beside<W: Write>(out: &mut W, w: usize) -> io::Result<()> {
+    test_print::number(out, b"word ", w as u64)?;
+    test_print::text(out, b" wrong but not listed")
 }
 
-fn say_kept(w: usize, capture: &[u8]) {
-    name_beside(w);
-    say_truth(b": kept ", is_afresh(1, 6, capture));
-    test_print::end();
+fn say_kept<W: Write>(out: &mut W, w: usize, capture: &[u8]) -> io::Result<()> {
+    name_beside(out, w)?;
+    say_truth(out, b": kept ", is_afresh(1, 6, capture))?;
+    test_print::end(out)
 }
 
-fn flipped_in(w: usize, i: usize, x: usize, j: usize, spare: u8, capture: &mut [u8]) {
+fn flipped_in<W: Write>(
+    out: &mut W,
+    w: usize,
+    i: usize,
+    x: usize,
+    j: usize,
+    spare: u8,
+    capture: &mut [u8],
+) -> io::Result<()> {
     code(1, NO_BLOCK, capture);
     flip_two(w, i, x, j, capture);
-    if edit(6, spare, capture) {
+    if edit(out, 6, spare, capture)? {
         flip_two(w, i, x, j, capture);
-        say_kept(w, capture);
+        say_kept(out, w, capture)?;
     }
+    Ok(())
 }
 
 // Bit i of word w is wrong and bit j of word x. A granted edit keeps them so: flipped back, the capture is that of the edit without them.
-fn flipped(w: usize, i: usize, x: usize, j: usize, spare: u8) {
+fn flipped<W: Write>(
+    out: &mut W,
+    w: usize,
+    i: usize,
+    x: usize,
+    j: usize,
+    spare: u8,
+) -> io::Result<()> {
     let mut capture = buffer_sizes::large_space();
-    flipped_in(w, i, x, j, spare, &mut capture[0..ONE_BYTES]);
+    flipped_in(out, w, i, x, j, spare, &mut capture[0..ONE_BYTES])
 }
 
 // Two bits of word w are wrong, which is not listed.
-fn beside(w: usize) {
-    name_beside(w);
-    flipped(w, 5, w, 127, 0);
+fn beside<W: Write>(out: &mut W, w: usize) -> io::Result<()> {
+    name_beside(out, w)?;
+    flipped(out, w, 5, w, 127, 0)
 }
 
 // Number 9: bit i of word w is wrong, which is one of those to be listed.
-fn listed_wrong(w: usize, i: usize) {
-    test_print::number(b"word ", w as u64);
-    test_print::number(b" bit ", i as u64);
-    test_print::text(b" wrong");
-    flipped(w, i, w, NO_BIT, 0);
+fn listed_wrong<W: Write>(out: &mut W, w: usize, i: usize) -> io::Result<()> {
+    test_print::number(out, b"word ", w as u64)?;
+    test_print::number(out, b" bit ", i as u64)?;
+    test_print::text(out, b" wrong")?;
+    flipped(out, w, i, w, NO_BIT, 0)
 }
 
 // ---- refused edits
 
 // Number 2, also where a spare bit is set.
-fn lengths() {
-    refused(b"list of 144", 1, 0, 33, 2048, 144);
-    refused(b"list of 146", 1, 0, 33, 2048, 146);
-    refused(b"client block of 32 bytes", 1, 0, 32, 2048, 145);
-    refused(b"parity of 2047 bytes", 1, 0, 33, 2047, 145);
-    refused(b"capture of N 1 as N 2", 2, 0, 33, 2048, 145);
-    refused(b"spare bit set and list of 144", 1, 1, 33, 2048, 144);
+fn lengths<W: Write>(out: &mut W) -> io::Result<()> {
+    refused(out, b"list of 144", 1, 0, 33, 2048, 144)?;
+    refused(out, b"list of 146", 1, 0, 33, 2048, 146)?;
+    refused(out, b"client block of 32 bytes", 1, 0, 32, 2048, 145)?;
+    refused(out, b"parity of 2047 bytes", 1, 0, 33, 2047, 145)?;
+    refused(out, b"capture of N 1 as N 2", 2, 0, 33, 2048, 145)?;
+    refused(out, b"spare bit set and list of 144", 1, 1, 33, 2048, 144)
 }
 
 // Number 3, also where a word to be listed is wrong.
-fn spare_bits() {
-    refused(b"lowest spare bit set", 1, 1, 33, 2048, 145);
-    refused(b"highest spare bit set", 1, 64, 33, 2048, 145);
-    test_print::text(b"spare bit set and listed word wrong");
-    flipped(15, 0, 15, NO_BIT, 1);
+fn spare_bits<W: Write>(out: &mut W) -> io::Result<()> {
+    refused(out, b"lowest spare bit set", 1, 1, 33, 2048, 145)?;
+    refused(out, b"highest spare bit set", 1, 64, 33, 2048, 145)?;
+    test_print::text(out, b"spare bit set and listed word wrong")?;
+    flipped(out, 15, 0, 15, NO_BIT, 1)
 }
 
 // Number 9.
-fn wrong_words() {
-    listed_wrong(15, 0);
-    listed_wrong(15, 127);
-    listed_wrong(2672, 77);
-    test_print::text(b"words 15 and 2672 wrong");
-    flipped(2672, 5, 15, 6, 0);
+fn wrong_words<W: Write>(out: &mut W) -> io::Result<()> {
+    listed_wrong(out, 15, 0)?;
+    listed_wrong(out, 15, 127)?;
+    listed_wrong(out, 2672, 77)?;
+    test_print::text(out, b"words 15 and 2672 wrong")?;
+    flipped(out, 2672, 5, 15, 6, 0)
 }
 
 // ---- edits of a capture that was never coded
@@ -379,75 +428,84 @@ fn fill_words(seed: u64, capture: &mut [u8]) {
     }
 }
 
-fn name_never(block: u64, what: &[u8]) {
-    test_print::number(b"never coded block ", block);
-    test_print::text(what);
+fn name_never<W: Write>(out: &mut W, block: u64, what: &[u8]) -> io::Result<()> {
+    test_print::number(out, b"never coded block ", block)?;
+    test_print::text(out, what)
 }
 
-fn say_never(block: u64, capture: &[u8]) {
-    name_never(block, b" before:");
-    test_print::digest(b" capture ", capture);
-    test_print::end();
+fn say_never<W: Write>(out: &mut W, block: u64, capture: &[u8]) -> io::Result<()> {
+    name_never(out, block, b" before:")?;
+    test_print::digest(out, b" capture ", capture)?;
+    test_print::end(out)
 }
 
-fn edit_never(block: u64, what: &[u8], capture: &mut [u8]) {
-    name_never(block, what);
-    edit(block, 0, capture);
+fn edit_never<W: Write>(
+    out: &mut W,
+    block: u64,
+    what: &[u8],
+    capture: &mut [u8],
+) -> io::Result<()> {
+    name_never(out, block, what)?;
+    edit(out, block, 0, capture)?;
+    Ok(())
 }
 
-fn edit_twice(block: u64, capture: &mut [u8]) {
+fn edit_twice<W: Write>(out: &mut W, block: u64, capture: &mut [u8]) -> io::Result<()> {
     fill_words(400 + block % 100000, capture);
-    say_never(block, capture);
-    edit_never(block, b"", capture);
-    edit_never(block, b" again", capture);
+    say_never(out, block, capture)?;
+    edit_never(out, block, b"", capture)?;
+    edit_never(out, block, b" again", capture)
 }
 
 // Valid words that no input was coded to. The same edit once more changes nothing.
-fn never_coded(block: u64) {
+fn never_coded<W: Write>(out: &mut W, block: u64) -> io::Result<()> {
     let mut capture = buffer_sizes::large_space();
-    edit_twice(block, &mut capture[0..ONE_BYTES]);
+    edit_twice(out, block, &mut capture[0..ONE_BYTES])
 }
 
 // ---- all of them
 
-fn list_before() {
+fn list_before<W: Write>(out: &mut W) -> io::Result<()> {
     let list = list_of();
     test_print::hex(
+        out,
         b"list before: ",
         test_data::digest_numbers(&list[0..sizes::LIST_LENGTH]),
-    );
-    test_print::end();
+    )?;
+    test_print::end(out)
 }
 
-fn grants() {
-    past_end(1);
-    grant(1, 0);
-    grant(1, 6);
-    grant(1, 951);
-    grant(1, 952);
-    grant(1, 4759);
-    past_end(2);
-    grant(2, 4759);
-    grant(2, 4760);
-    past_end(8);
-    grant(8, 38079);
+fn grants<W: Write>(out: &mut W) -> io::Result<()> {
+    past_end(out, 1)?;
+    grant(out, 1, 0)?;
+    grant(out, 1, 6)?;
+    grant(out, 1, 951)?;
+    grant(out, 1, 952)?;
+    grant(out, 1, 4759)?;
+    past_end(out, 2)?;
+    grant(out, 2, 4759)?;
+    grant(out, 2, 4760)?;
+    past_end(out, 8)?;
+    grant(out, 8, 38079)
 }
 
-fn refusals() {
-    numbered(1, 0, 0);
-    numbered(1, 9, 0);
-    numbered(1, 1, 18446744073709551615);
-    lengths();
-    spare_bits();
-    wrong_words();
+fn refusals<W: Write>(out: &mut W) -> io::Result<()> {
+    numbered(out, 1, 0, 0)?;
+    numbered(out, 1, 9, 0)?;
+    numbered(out, 1, 1, 18446744073709551615)?;
+    lengths(out)?;
+    spare_bits(out)?;
+    wrong_words(out)
 }
 
-fn main() {
-    list_before();
-    grants();
-    refusals();
-    beside(0);
-    beside(170);
-    never_coded(6);
-    never_coded(4759);
+fn main(rt: HostRuntime) -> io::Result<()> {
+    let mut out = BufWriter::new(rt.alloc(), io::writer(&rt))?;
+    list_before(&mut out)?;
+    grants(&mut out)?;
+    refusals(&mut out)?;
+    beside(&mut out, 0)?;
+    beside(&mut out, 170)?;
+    never_coded(&mut out, 6)?;
+    never_coded(&mut out, 4759)?;
+    out.flush()
 }

@@ -6,7 +6,11 @@ mod cases;
 mod counts;
 mod windows;
 
-fn main() {
-    counts::cases();
-    windows::cases();
+use std::io::{self, BufWriter, Write};
+
+fn main(rt: HostRuntime) -> io::Result<()> {
+    let mut out = BufWriter::new(rt.alloc(), io::writer(&rt))?;
+    counts::cases(&mut out)?;
+    windows::cases(&mut out)?;
+    out.flush()
 }

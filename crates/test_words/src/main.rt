@@ -5,6 +5,7 @@
 ghost use Rattle.std.specs.Prelude.{◌<◌};
 
 use hamming::{Found, Repaired};
+use std::io::{self, BufWriter, Write};
 
 // The element whose first n bytes are x and whose others are y.
 fn element(x: u8, y: u8, n: usize) -> [u8; 16] {
@@ -30,29 +31,29 @@ fn tried(i: usize) -> [u8; 16] {
     }
 }
 
-fn print_level(v: i8) {
+fn print_level<W: Write>(out: &mut W, v: i8) -> io::Result<()> {
     if v == -3 {
-        test_print::text(b" -3");
+        test_print::text(out, b" -3")
     } else if v == -1 {
-        test_print::text(b" -1");
+        test_print::text(out, b" -1")
     } else if v == 1 {
-        test_print::text(b" +1");
+        test_print::text(out, b" +1")
     } else if v == 3 {
-        test_print::text(b" +3");
+        test_print::text(out, b" +3")
     } else {
-        test_print::text(b" ?");
+        test_print::text(out, b" ?")
     }
 }
 
 // A row of Table 12: four bits, and the levels that they have in the X and in the Y polarization.
-fn print_row(n: u8) {
-    test_print::four_bits(n);
+fn print_row<W: Write>(out: &mut W, n: u8) -> io::Result<()> {
+    test_print::four_bits(out, n)?;
     let s = symbol::symbol_of(n % 16 * 17);
-    print_level(s.xi);
-    print_level(s.xq);
-    print_level(s.yi);
-    print_level(s.yq);
-    test_print::end();
+    print_level(out, s.xi)?;
+    print_level(out, s.xq)?;
+    print_level(out, s.yi)?;
+    print_level(out, s.yq)?;
+    test_print::end(out)
 }
 
 // The word with bit i flipped.
@@ -131,30 +132,43 @@ fn double_flips(t: &[u16; 4096], positions: &[u8; 512], w: [u8; 16]) -> u64 {
     n
 }
 
-fn print_flips(t: &[u16; 4096], positions: &[u8; 512], w: [u8; 16]) {
-    test_print::number(b"repaired ", single_flips(t, positions, w));
-    test_print::number(b" of 128, beyond repair ", double_flips(t, positions, w));
-    test_print::word(b" of 8128: ", w);
+fn print_flips<W: Write>(
+    out: &mut W,
+    t: &[u16; 4096],
+    positions: &[u8; 512],
+    w: [u8; 16],
+) -> io::Result<()> {
+    test_print::number(out, b"repaired ", single_flips(t, positions, w))?;
+    test_print::number(
+        out,
+        b" of 128, beyond repair ",
+        double_flips(t, positions, w),
+    )?;
+    test_print::word(out, b" of 8128: ", w)
 }
 
-fn print_words() {
+fn print_words<W: Write>(out: &mut W) -> io::Result<()> {
     for i in 0..4 {
-        test_print::word(b"", tried(i));
+        test_print::word(out, b"", tried(i))?;
     }
+    Ok(())
 }
 
-fn print_rows() {
+fn print_rows<W: Write>(out: &mut W) -> io::Result<()> {
     for n in 0..16 {
-        print_row(n);
+        print_row(out, n)?;
     }
+    Ok(())
 }
 
-fn main() {
-    print_words();
-    print_rows();
+fn main(rt: HostRuntime) -> io::Result<()> {
+    let mut out = BufWriter::new(rt.alloc(), io::writer(&rt))?;
+    print_words(&mut out)?;
+    print_rows(&mut out)?;
     let t = hamming_table::byte_table();
     let positions = hamming_matrix::position_table();
     for i in 0..7 {
-        print_flips(&t, &positions, tried(i));
+        print_flips(&mut out, &t, &positions, tried(i))?;
     }
+    out.flush()
 }

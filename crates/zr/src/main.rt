@@ -4,7 +4,10 @@
 mod captures;
 mod places;
 
-use zr_shell::said;
+use std::io;
+use std::io::{BufWriter, Write};
+use zr_shell::files::ARGUMENT_BYTES;
+use zr_shell::{files, said};
 
 // `Convert` is map, or unmap where it is so.
 #[derive(Clone, Copy)]
@@ -48,18 +51,24 @@ fn command_of(word: &[u8], arguments: usize) -> Command {
     Command::Unknown
 }
 
-fn main() {
-    let mut word = io::buffer();
-    let k = os::arg(1, &mut word);
-    let command = command_of(&word[..k], os::arg_count());
+fn answer_to<W: Write>(out: &mut W, rt: &HostRuntime) -> io::Result<()> {
+    let mut word = [0u8; ARGUMENT_BYTES];
+    let k = files::argument(rt, 1, &mut word);
+    let command = command_of(&word[..k], files::argument_count(rt));
     match command {
-        Command::Code => captures::code(),
-        Command::Read => captures::read(),
-        Command::Edit => captures::edit(),
-        Command::Convert(unmapping) => places::convert(unmapping),
-        Command::Runs => places::runs(),
-        Command::Pack => zr_archive::pack(),
-        Command::List => zr_archive::list(),
-        Command::Unknown => said::unknown(),
+        Command::Code => captures::code(out, rt),
+        Command::Read => captures::read(out, rt),
+        Command::Edit => captures::edit(out, rt),
+        Command::Convert(unmapping) => places::convert(out, rt, unmapping),
+        Command::Runs => places::runs(out, rt),
+        Command::Pack => zr_archive::pack(out, rt),
+        Command::List => zr_archive::list(out, rt),
+        Command::Unknown => said::unknown(out),
     }
+}
+
+fn main(rt: HostRuntime) -> io::Result<()> {
+    let mut out = BufWriter::new(rt.alloc(), io::writer(&rt))?;
+    answer_to(&mut out, &rt)?;
+    out.flush()
 }

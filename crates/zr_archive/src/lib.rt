@@ -5,6 +5,9 @@ ghost use Rattle.std.specs.Prelude.{◌≡◌, ◌≤◌, length};
 
 use answer::Answer;
 use archive::{BEFORE_ENTRIES, ENTRY_BYTES, MOST_ENTRIES};
+use std::io;
+use std::io::Write;
+use zr_shell::files::ARGUMENT_BYTES;
 use zr_shell::{files, said};
 
 // One number more than an archive has entries, so that too many are seen by the library, which refuses them.
@@ -16,19 +19,21 @@ const MOST_BYTES: usize = BEFORE_ENTRIES + ENTRY_BYTES * LISTED;
 const TOO_LONG: u64 = 4294967296;
 
 // zr pack OUT KIND LENGTH [KIND LENGTH ..]
-pub fn pack() {
-    let entries = entries_of(os::arg_count());
+pub fn pack<W: Write>(out: &mut W, rt: &HostRuntime) -> io::Result<()> {
+    let entries = entries_of(files::argument_count(rt));
     let n = listed(entries);
     let k = BEFORE_ENTRIES + ENTRY_BYTES * n;
-    let kinds = kinds_of(n);
-    let lengths = lengths_of(n);
+    let kinds = kinds_of(rt, n);
+    let lengths = lengths_of(rt, n);
     let mut head = [0u8; MOST_BYTES];
     make(
+        out,
+        rt,
         entries as u64,
         &kinds[0..n],
         &lengths[0..n],
         &mut head[0..k],
-    );
+    )
 }
 
 fn entries_of(arguments: usize) -> usize {
@@ -47,47 +52,55 @@ fn listed(entries: usize) -> usize
     LISTED
 }
 
-fn kinds_of(n: usize) -> [u64; LISTED]
+fn kinds_of(rt: &HostRuntime, n: usize) -> [u64; LISTED]
     requires { n ≤ 33 }
     ensures { 33 ≡ length result }
 {
     let mut kinds = [0u64; LISTED];
     for e in 0..n {
-        kinds[e] = kind_at(3 + 2 * e);
+        kinds[e] = kind_at(rt, 3 + 2 * e);
     }
     kinds
 }
 
-fn lengths_of(n: usize) -> [u64; LISTED]
+fn lengths_of(rt: &HostRuntime, n: usize) -> [u64; LISTED]
     requires { n ≤ 33 }
     ensures { 33 ≡ length result }
 {
     let mut lengths = [0u64; LISTED];
     for e in 0..n {
-        lengths[e] = length_at(4 + 2 * e);
+        lengths[e] = length_at(rt, 4 + 2 * e);
     }
     lengths
 }
 
-fn make(entries: u64, kinds: &[u64], lengths: &[u64], head: &mut [u8]) {
+fn make<W: Write>(
+    out: &mut W,
+    rt: &HostRuntime,
+    entries: u64,
+    kinds: &[u64],
+    lengths: &[u64],
+    head: &mut [u8],
+) -> io::Result<()> {
     let answer = archive::write(entries, kinds, lengths, head);
     if answer.number != 0 {
-        said::refused(answer, b",kinds,lengths,head");
-        said::sets(
+        said::refused(out, answer, b",kinds,lengths,head")?;
+        return said::sets(
+            out,
             answer,
             b"  an archive has 1 to 32 bodies, and a body's length and offset are at most 4294967295\n",
         );
-        return;
     }
-    if files::save(2, head) {
-        said::done(answer.count, b" byte", b" of head\n");
+    if files::save(out, rt, 2, head)? {
+        said::done(out, answer.count, b" byte", b" of head\n")?;
     }
+    Ok(())
 }
 
 // The kind that argument i names. The launcher takes no other word; here it is 0, which the library refuses.
-fn kind_at(i: usize) -> u64 {
-    let mut word = io::buffer();
-    let k = os::arg(i, &mut word);
+fn kind_at(rt: &HostRuntime, i: usize) -> u64 {
+    let mut word = [0u8; ARGUMENT_BYTES];
+    let k = files::argument(rt, i, &mut word);
     if check::same(&word[..k], b"information") {
         return 1;
     }
@@ -100,9 +113,9 @@ fn kind_at(i: usize) -> u64 {
     0
 }
 
-fn length_at(i: usize) -> u64 {
-    let mut word = io::buffer();
-    let k = os::arg(i, &mut word);
+fn length_at(rt: &HostRuntime, i: usize) -> u64 {
+    let mut word = [0u8; ARGUMENT_BYTES];
+    let k = files::argument(rt, i, &mut word);
     length_of(&word[..k])
 }
 
@@ -127,37 +140,31 @@ fn next_length(v: u64, b: u8) -> u64 {
 }
 
 // zr list FILE
-pub fn list() {
-    let mut path = io::buffer();
-    let k = os::arg(2, &mut path);
-    list_file(&path[..k]);
+pub fn list<W: Write>(out: &mut W, rt: &HostRuntime) -> io::Result<()> {
+    let mut path = [0u8; ARGUMENT_BYTES];
+    let k = files::argument(rt, 2, &mut path);
+    list_file(out, rt, &path[..k])
 }
 
 // What `-` gives is read to its end, since it may be no file.
-fn list_file(path: &[u8]) {
-    if check::same(path, b"-") {
-        list_from(path, libc::STDIN_FILENO, false);
-        return;
-    }
-    let fd = files::open(path);
-    if fd < 0 {
-        return;
-    }
-    list_from(path, fd, true);
-    libc::close(fd);
-}
-
-fn list_from(path: &[u8], fd: i32, seek: bool) {
+fn list_file<W: Write>(out: &mut W, rt: &HostRuntime, path: &[u8]) -> io::Result<()> {
     let mut kinds = [0u64; MOST_ENTRIES];
     let mut offsets = [0u64; MOST_ENTRIES];
     let mut lengths = [0u64; MOST_ENTRIES];
-    let opened = archive_input::read(fd, seek, &mut kinds, &mut offsets, &mut lengths);
-    let answer: Answer = opened.answer;
-    if !opened.fine {
-        files::unread(path);
-    } else if answer.number != 0 {
-        said::refused(answer, b",first bytes,kinds,offsets,lengths");
+    let opened = if check::same(path, b"-") {
+        archive_input::read(&mut rt.stdin(), &mut kinds, &mut offsets, &mut lengths)
     } else {
-        archive_print::print(&kinds, &offsets, &lengths, answer.count);
+        let Some(mut file) = files::open(out, rt, path)? else {
+            return Ok(());
+        };
+        archive_input::read_file(&mut file, &mut kinds, &mut offsets, &mut lengths)
+    };
+    let answer: Answer = match opened {
+        Ok(answer) => answer,
+        Err(error) => return files::unread(out, rt, path, error),
+    };
+    if answer.number != 0 {
+        return said::refused(out, answer, b",first bytes,kinds,offsets,lengths");
     }
+    archive_print::print(out, &kinds, &offsets, &lengths, answer.count)
 }

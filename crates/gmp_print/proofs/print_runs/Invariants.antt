@@ -1,0 +1,9 @@
+use Rattle.std.proofs.Common.{◌-◌, ◌≤◌}
+use Rattle.gmp_print.proofs.print_runs.Given as goal
+
+-- a run ends at or behind the place asked for, and the measure is the number of places that are left
+abbrev pub invariant-loop-j : goal.invariant-loop-j
+invariant-loop-j g l = (1 ≤ l.j) × (l.j ≤ 10221)
+
+abbrev pub decreases-loop-j : goal.decreases-loop-j
+decreases-loop-j g l = 10221 - l.j
