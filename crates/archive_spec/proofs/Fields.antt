@@ -23,9 +23,9 @@ number_lt k s a = num_lt (8 * k) (bit_at s) (8 * a) (bit_of_lt 8 s)
 
 -- ---- there and back
 
-pub number_of : (k : ℕ) (s : List ℕ) (a x : ℕ) → x < 2 ^ (8 * k) → take k (drop a s) ≡ bytes_of k x → number_at k s a ≡ x
+pub number_of_law : (k : ℕ) (s : List ℕ) (a x : ℕ) → x < 2 ^ (8 * k) → take k (drop a s) ≡ bytes_of k x → number_at k s a ≡ x
 unfolding number_at
-number_of k s a x h e =
+number_of_law k s a x h e =
     num_is (8 * k) (bit_at s) (8 * a) x h
     (λ j l. sym (bit_of_part 8 s a k j l) ∙ ap (λ (p : List ℕ). bit_at p j) e ∙ bit_of-packs 8 k (digit (8 * k) x) j (digit_lt (8 * k) x) l)
 

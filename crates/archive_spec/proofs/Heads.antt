@@ -12,7 +12,7 @@ use Rattle.prelude.proofs.Common.{by_bound}
 use Rattle.prelude.proofs.Lists.{tabulate-get_or}
 use Rattle.archive_spec.specs.File.{fixed_bytes, count_bytes, kind_bytes, field_bytes, entry_bytes, head_bytes, most_entries, field_most, bytes_of, fixed}
 use Rattle.archive_spec.specs.File.{start_of, table_entry, head_to, head_of, count_in, kind_in, offset_in, length_in}
-use Rattle.archive_spec.proofs.Fields.{bytes_long, number_of}
+use Rattle.archive_spec.proofs.Fields.{bytes_long, number_of_law}
 
 -- ---- pieces g 0, g 1, .. behind a
 
@@ -132,7 +132,7 @@ module _ (n : ℕ) (kind len : ℕ → ℕ) (s : List ℕ) (b : take (head_bytes
 
   pub count_in_law : n ≤ most_entries → count_in s ≡ n
   count_in_law h =
-      number_of count_bytes s fixed_bytes n (omega arith)
+      number_of_law count_bytes s fixed_bytes n (omega arith)
       (part_within 0 fixed_bytes count_bytes (head_bytes 0) s fixed (bytes_of count_bytes n) []
       (before_entries ∙ ap (λ (t : List ℕ). fixed ++ t) (sym (append-nil (bytes_of count_bytes n)))) fixed_long (bytes_long count_bytes n) (omega arith))
 
@@ -161,13 +161,13 @@ module _ (n : ℕ) (kind len : ℕ → ℕ) (s : List ℕ) (b : take (head_bytes
 
     pub kind_in_law : kind e < 256 → kind_in s e ≡ kind e
     kind_in_law l =
-        number_of kind_bytes s (head_bytes e) (kind e) l
+        number_of_law kind_bytes s (head_bytes e) (kind e) l
         (ap (λ (a : ℕ). take kind_bytes (drop a s)) (sym (add-zero (head_bytes e)))
         ∙ part_within (head_bytes e) 0 kind_bytes entry_bytes s [] kind_part (offset_part ++ length_part) parts refl (bytes_long kind_bytes (kind e)) (omega arith))
 
     pub offset_in_law : start_of n len e ≤ field_most → offset_in s e ≡ start_of n len e
     offset_in_law l =
-        number_of field_bytes s (head_bytes e + 1) (start_of n len e) (omega arith)
+        number_of_law field_bytes s (head_bytes e + 1) (start_of n len e) (omega arith)
         (part_within (head_bytes e) 1 field_bytes entry_bytes s kind_part offset_part length_part parts (bytes_long kind_bytes (kind e))
         (bytes_long field_bytes (start_of n len e)) (omega arith))
 
@@ -176,6 +176,6 @@ module _ (n : ℕ) (kind len : ℕ → ℕ) (s : List ℕ) (b : take (head_bytes
         let split = append_assoc kind_part offset_part (length_part ++ []) in
         let long : length (kind_part ++ offset_part) ≡ 5 =
         rw (length-append kind_part offset_part, bytes_long kind_bytes (kind e), bytes_long field_bytes (start_of n len e)) in
-        number_of field_bytes s (head_bytes e + 5) (len e) (omega arith)
+        number_of_law field_bytes s (head_bytes e + 5) (len e) (omega arith)
         (part_within (head_bytes e) 5 field_bytes entry_bytes s (kind_part ++ offset_part) length_part []
         (parts ∙ ap (λ (t : List ℕ). kind_part ++ (offset_part ++ t)) (sym (append-nil length_part)) ∙ sym split) long (bytes_long field_bytes (len e)) (omega arith))

@@ -54,13 +54,13 @@ byte_sum_more k j r h l =
 
 -- ---- entries of the table
 
-pub entry_of : (k x : ℕ) → x < 256 → byte_entry (256 * k + x) ≡ byte_sum k x
+pub entry_of_law : (k x : ℕ) → x < 256 → byte_entry (256 * k + x) ≡ byte_sum k x
 unfolding byte_entry
-entry_of k x h = ap₂ byte_sum (omega arith) (omega arith)
+entry_of_law k x h = ap₂ byte_sum (omega arith) (omega arith)
 
 -- the first of a row
 row_first : (k : ℕ) → byte_entry (256 * k) ≡ 0
-row_first k = ap byte_entry (sym (add-zero (256 * k))) ∙ entry_of k 0 (omega arith) ∙ byte_sum_none k
+row_first k = ap byte_entry (sym (add-zero (256 * k))) ∙ entry_of_law k 0 (omega arith) ∙ byte_sum_none k
 
 -- the doubling in a row: n goes from 1 to 128
 pub row_room : (j n : ℕ) → j < 8 → n ≡ 2 ^ j → n ≤ 128
@@ -73,8 +73,8 @@ pub row_doubles : (k j n c : ℕ) → j < 8 → n ≡ 2 ^ j → c ≡ column_of 
 row_doubles k j n c h p q r l =
     let m = row_room j n h p in
     let t : c ≡ column_of (8 * k + (7 - j)) = q ∙ ap column_of (omega arith) in
-    ap byte_entry (omega arith) ∙ entry_of k (n + r) (omega arith) ∙ rw (t, p) (byte_sum_more k j r h (rw p at l))
-    ∙ ap (λ (x : ℕ). bit_xor x c) (sym (entry_of k r (omega arith)))
+    ap byte_entry (omega arith) ∙ entry_of_law k (n + r) (omega arith) ∙ rw (t, p) (byte_sum_more k j r h (rw p at l))
+    ∙ ap (λ (x : ℕ). bit_xor x c) (sym (entry_of_law k r (omega arith)))
 
 -- ---- a table that is begun
 

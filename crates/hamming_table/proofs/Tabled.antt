@@ -20,10 +20,10 @@ use Rattle.hamming.proofs.Words.{checks_lt, element_lt, joined_lt, pack_bytes}
 use Rattle.hamming.proofs.ByBytes.{byte_of_sum, checks_bytes, checks_alone}
 use Rattle.hamming_matrix.specs.Steps.{tail_table, position_table}
 use Rattle.hamming.specs.Steps.{byte_sum}
-use Rattle.hamming_table.proofs.Doubling.{entry_of}
+use Rattle.hamming_table.proofs.Doubling.{entry_of_law}
 
 byte_entry_law : (k x : ℕ) → k < word_bytes → x < 256 → get_or byte_table (256 * k + x) 0 ≡ byte_sum k x
-byte_entry_law k x h l = get_d_tabulate 0 (256 * word_bytes) byte_entry (256 * k + x) (omega arith) ∙ entry_of k x l
+byte_entry_law k x h l = get_d_tabulate 0 (256 * word_bytes) byte_entry (256 * k + x) (omega arith) ∙ entry_of_law k x l
 
 pub by_checks : (t w : List ℕ) → t ≡ byte_table → Bytes w → sum_by t w ≡ checks_of w
 unfolding sum_by entry_at byte_of_sum

@@ -59,7 +59,8 @@ fn read_accepted(n: usize, m0: u64, capture: &[u8], info: &mut [u8], parity: &mu
 {
     let t = hamming_table::byte_table();
     let positions = hamming_matrix::position_table();
-    let scr = whole_sequence();
+    let mut scr = [0u8; SEQUENCE_BYTES];
+    whole_sequence(&mut scr);
     let mut buffer = blank();
     read_by(
         &t,
@@ -74,13 +75,11 @@ fn read_accepted(n: usize, m0: u64, capture: &[u8], info: &mut [u8], parity: &mu
     )
 }
 
-// What is added to the bytes of a super frame.
-fn whole_sequence() -> [u8; SEQUENCE_BYTES]
-    ensures { result ≡ sequence }
+// What is added to the bytes of a super frame. It is made where it stands: handed out, it would be on the stack twice.
+fn whole_sequence(out: &mut [u8; SEQUENCE_BYTES])
+    ensures { out.new ≡ sequence }
 {
-    let mut out = [0u8; SEQUENCE_BYTES];
-    scrambler::fill(&mut out);
-    out
+    scrambler::fill(out);
 }
 
 // A place for the bytes of one super frame.
