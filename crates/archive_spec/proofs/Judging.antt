@@ -26,7 +26,7 @@ use Rattle.answer.proofs.Turns.{in_turn_law, by_turns, passed, granted_passed, e
 use Rattle.answer.proofs.Meets.{meets_done}
 use Rattle.archive_spec.specs.File.{fixed_bytes, fixed, head_bytes, most_entries, most_head_bytes, number_at, head_of, count_in, kind_in, count_outside}
 use Rattle.archive_spec.specs.Write.{nth, any_below, entry_outside, handed_in, write_outside, write_rows, write_answer, write_leaves}
-use Rattle.archive_spec.specs.Read.{fixed_differs, is_no_archive, at_place, bad_count, bad_kind, off_rule, open_early_rows, open_late_rows, open_rows, open_answer, overwritten, table_in}
+use Rattle.archive_spec.specs.Read.{fixed_differs, is_no_archive, at_place, bad_count, bad_kind, off_rule, open_early_rows, open_late_rows, open_rows, open_answer, table_in}
 use Rattle.archive_spec.specs.Read.{open_leaves}
 use Rattle.archive_spec.specs.Steps.{field_in, bad_count_of, entries_answer, Head, Room, Listed}
 

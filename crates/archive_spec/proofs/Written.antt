@@ -14,7 +14,6 @@ use Rattle.prelude.proofs.Lists.{tabulate_ext}
 use Rattle.answer.specs.Numbers.{all_done}
 use Rattle.answer.specs.Rows.{done}
 use Rattle.answer.specs.Steps.{Passed, RowPassed, NoFault}
-use Rattle.answer.specs.Outcomes.{written}
 use Rattle.answer.specs.declared.Answer.{Answer}
 use Rattle.answer.proofs.Turns.{all_passed, length_right, none_there}
 use Rattle.answer.proofs.Meets.{written_done}
@@ -28,7 +27,7 @@ use Rattle.archive_spec.specs.Steps.{Inside}
 use Rattle.archive_spec.proofs.Starts.{start_none, start_more, start_ext, start_behind, outside_at_law, inside_of, kind_small}
 use Rattle.archive_spec.proofs.Heads.{front_stays, piece_stands, head_long}
 use Rattle.archive_spec.proofs.Heads.{fixed_in, count_in_law, kind_in_law, offset_in_law, length_in_law}
-use Rattle.archive_spec.proofs.Judging.{Counted, written_head, head_counted, open_shown}
+use Rattle.archive_spec.proofs.Judging.{Counted, written_head, head_counted}
 
 -- ---- a file that begins with a head, whose size is the end of its last body, is opened
 

@@ -1,7 +1,6 @@
 -- `answer::buffer_place` meets its contract. Assumes nothing.
 use native.Mathlib.Omega.{arith}
 use Rattle.answer.specs.Rows.{buffer_place}
-use borrow.Author.Rules.{rules}
 use Rattle.answer.proofs.buffer_place.Goals as goal
 
 pub returns : goal.returns

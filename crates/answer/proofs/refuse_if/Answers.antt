@@ -1,6 +1,5 @@
 -- `answer::refuse_if` meets its contract. Assumes nothing.
 
-use borrow.Author.Rules.{rules}
 use Rattle.answer.proofs.refuse_if.Goals as goal
 
 pub returns-then-holds : goal.returns-then-holds

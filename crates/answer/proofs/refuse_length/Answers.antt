@@ -1,6 +1,5 @@
 -- `answer::refuse_length` meets its contract. Assumes nothing.
 
-use borrow.Author.Rules.{rules}
 use Rattle.answer.proofs.refuse_length.Goals as goal
 
 pub returns : goal.returns

@@ -2,7 +2,6 @@
 use Rattle.answer.proofs.Meets.{meets_refused}
 use Rattle.archive_spec.specs.Read.{open_leaves}
 use Rattle.archive_spec.proofs.Judging.{open_room, open_listed}
-use borrow.Author.Rules.{rules}
 use Rattle.archive.proofs.read.Goals as goal
 
 pub returns-else-r-eq0 : goal.returns-else-r-eq0

@@ -2,7 +2,6 @@
 use Rattle.answer.proofs.Meets.{meets_done, meets_refused}
 use Rattle.archive_spec.specs.Write.{write_leaves}
 use Rattle.archive_spec.proofs.Judging.{written_head}
-use borrow.Author.Rules.{rules}
 use Rattle.archive.proofs.write.Goals as goal
 
 -- src/lib.rt:24:1

@@ -6,7 +6,6 @@ use lib.ListN.{length}
 use Rattle.prelude.specs.Lists.{tabulate, from_index}
 use Rattle.bits.specs.Bits.{bit_at}
 use Rattle.scrambling.specs.Steps.{added_byte}
-use borrow.Author.Rules.{rules}
 use Rattle.bench_scrambler.proofs.bench_scramble.Goals as goal
 
 pub returns : goal.returns

@@ -1,6 +1,5 @@
 -- `bits::bit_at` meets its contract. Assumes nothing.
 use Rattle.bits.specs.Bits.{bit_of, digit}
-use borrow.Author.Rules.{rules}
 use Rattle.bits.proofs.bit_at.Goals as goal
 
 pub returns : goal.returns

@@ -2,7 +2,6 @@
 use mathlib.Core.Path.{◌∙◌}
 use native.Mathlib.Omega.{arith}
 use Rattle.bits.proofs.Packing.{num_two}
-use borrow.Author.Rules.{rules}
 use Rattle.bits.proofs.byte_from.Goals as goal
 
 pub returns : goal.returns

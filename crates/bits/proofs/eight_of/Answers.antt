@@ -2,7 +2,6 @@
 use Prim.Native.Nat.{◌%◌}
 use native.Mathlib.Omega.{arith}
 use Rattle.bits.proofs.Packing.{two_window}
-use borrow.Author.Rules.{rules}
 use Rattle.bits.proofs.eight_of.Goals as goal
 
 pub returns : goal.returns

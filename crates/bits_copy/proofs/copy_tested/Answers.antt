@@ -1,14 +1,9 @@
 -- `bits_copy::copy_tested` meets its contract: a byte a turn. Assumes nothing.
-use Prim.Native.Nat.{◌-◌}
 use mathlib.Core.Path.{◌∙◌}
 use native.Mathlib.Omega.{arith}
-use lib.ListN.{length}
-use Rattle.prelude.specs.Lists.{from_index}
-use Rattle.bits.specs.Bits.{bit_at, byte_of}
-use Rattle.prelude.proofs.Lists.{Filled, filled_more}
+use Rattle.prelude.proofs.Lists.{filled_more}
 use Rattle.prelude.proofs.LoopLaws.{loops}
 use Rattle.bits.proofs.Packing.{num_two_from}
-use borrow.Author.Rules.{rules}
 use Rattle.bits_copy.proofs.copy_tested.Goals as goal
 
 pub loop-k-preserved : goal.loop-k-preserved

@@ -1,13 +1,7 @@
 -- `bits_copy::copy_tested` meets its contract: a byte a turn. Assumes nothing.
-use Prim.Native.Nat.{◌-◌}
-use mathlib.Core.Path.{◌∙◌}
-use native.Mathlib.Omega.{arith}
-use lib.ListN.{length}
 use Rattle.prelude.specs.Lists.{from_index}
 use Rattle.bits.specs.Bits.{bit_at, byte_of}
-use Rattle.prelude.proofs.Lists.{Filled, filled_more}
-use Rattle.prelude.proofs.LoopLaws.{loops}
-use Rattle.bits.proofs.Packing.{num_two_from}
+use Rattle.prelude.proofs.Lists.{Filled}
 use Rattle.bits_copy.proofs.copy_tested.Given as goal
 
 abbrev pub invariant-loop-k : goal.invariant-loop-k

@@ -1,13 +1,10 @@
 -- `bits_place::behind` meets its contract: the room is filled, and the word cut out of it. Assumes nothing.
-use Prim.Native.Nat.{◌-◌}
 use mathlib.Core.Path.{refl, ◌∙◌}
 use native.Mathlib.Omega.{arith}
 use Rattle.bits.specs.Bits.{bit_at}
-use Rattle.prelude.proofs.Lists.{Filled, filled_all}
+use Rattle.prelude.proofs.Lists.{filled_all}
 use Rattle.prelude.proofs.LoopLaws.{loops}
-use Rattle.bits_place.specs.Steps.{room_byte}
 use Rattle.bits_place.proofs.Masking.{nothing_placed, room_placed}
-use borrow.Author.Rules.{rules}
 use Rattle.bits_place.proofs.behind.Goals as goal
 
 pub returns-then-d-ge-WORD_BITS : goal.returns-then-d-ge-WORD_BITS

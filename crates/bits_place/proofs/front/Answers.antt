@@ -6,7 +6,6 @@ use lib.Pow.{pow_pos}
 use Rattle.bits.specs.Bits.{num}
 use Rattle.bits_place.specs.Steps.{fronted}
 use Rattle.bits_place.proofs.Masking.{one_shifted, front_lt, front_made}
-use borrow.Author.Rules.{rules}
 use Rattle.bits_place.proofs.front.Goals as goal
 
 pub overflow_mul-result : goal.overflow_mul-result

@@ -2,7 +2,6 @@
 use mathlib.Core.Path.{◌∙◌}
 use Rattle.bits.specs.Bits.{bit_at}
 use Rattle.bits_place.proofs.Masking.{placed_from, placed_behind}
-use borrow.Author.Rules.{rules}
 use Rattle.bits_place.proofs.placed.Goals as goal
 
 pub returns-then-a-q : goal.returns-then-a-q

@@ -3,7 +3,6 @@ use native.Mathlib.Omega.{arith}
 use borrow.Author.Tests.{lt-ltb, le-ltb}
 use Rattle.sizes.specs.Sizes.{word_bytes}
 use Rattle.bits_place.specs.Steps.{room_byte}
-use borrow.Author.Rules.{rules}
 use Rattle.bits_place.proofs.room_byte.Goals as goal
 
 pub returns-then-k-lt-WORD_BYTES : goal.returns-then-k-lt-WORD_BYTES

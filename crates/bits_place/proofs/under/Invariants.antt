@@ -1,12 +1,7 @@
 -- `bits_place::under` meets its contract: a byte a turn. Assumes nothing.
-use Prim.Native.Nat.{◌-◌}
-use mathlib.Core.Path.{◌∙◌}
-use Rattle.sizes.specs.Sizes.{word_bytes}
 use Rattle.bits.specs.Bits.{bit_at, byte_of}
-use Rattle.prelude.proofs.Lists.{Filled, filled_more}
-use Rattle.prelude.proofs.LoopLaws.{loops}
+use Rattle.prelude.proofs.Lists.{Filled}
 use Rattle.bits_place.specs.Steps.{masked}
-use Rattle.bits_place.proofs.Masking.{word_under}
 use Rattle.bits_place.proofs.under.Given as goal
 
 abbrev pub invariant-loop-k : goal.invariant-loop-k

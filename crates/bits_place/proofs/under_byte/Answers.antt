@@ -1,7 +1,6 @@
 -- `bits_place::under_byte` meets its contract. Assumes nothing.
 use mathlib.Core.Path.{◌∙◌}
 use Rattle.bits_place.proofs.Masking.{byte_under}
-use borrow.Author.Rules.{rules}
 use Rattle.bits_place.proofs.under_byte.Goals as goal
 
 pub front-requires : goal.front-requires

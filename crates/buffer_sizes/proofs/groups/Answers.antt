@@ -2,7 +2,6 @@
 use mathlib.Core.Path.{ap}
 use native.Mathlib.Omega.{arith}
 use Rattle.sizes.specs.Sizes.{group_bytes}
-use borrow.Author.Rules.{rules}
 use Rattle.buffer_sizes.proofs.groups.Goals as goal
 
 pub returns : goal.returns

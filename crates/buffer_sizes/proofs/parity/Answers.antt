@@ -2,7 +2,6 @@
 use native.Mathlib.Omega.{arith}
 use Rattle.sizes.specs.Sizes.{most_frames, parity_length}
 use Rattle.buffer_sizes.proofs.Stated.{beyond, within}
-use borrow.Author.Rules.{rules}
 use Rattle.buffer_sizes.proofs.parity.Goals as goal
 
 pub returns-then-n-gt-MOST : goal.returns-then-n-gt-MOST

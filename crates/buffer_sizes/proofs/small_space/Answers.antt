@@ -2,7 +2,6 @@
 use mathlib.Core.Path.{refl}
 use Rattle.buffer_sizes.specs.Lengths.{small_bytes}
 use Rattle.buffer_sizes.proofs.Zeros.{many}
-use borrow.Author.Rules.{rules}
 use Rattle.buffer_sizes.proofs.small_space.Goals as goal
 
 pub returns : goal.returns

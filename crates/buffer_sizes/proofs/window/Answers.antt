@@ -2,7 +2,6 @@
 use native.Mathlib.Omega.{arith}
 use Rattle.sizes.specs.Sizes.{places, window_bytes}
 use Rattle.buffer_sizes.proofs.Stated.{beyond, within}
-use borrow.Author.Rules.{rules}
 use Rattle.buffer_sizes.proofs.window.Goals as goal
 
 pub returns-then-n-gt-PLACES : goal.returns-then-n-gt-PLACES

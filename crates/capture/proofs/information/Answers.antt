@@ -2,7 +2,6 @@
 use native.Mathlib.Omega.{arith}
 use Rattle.capture.proofs.Parting.{Part, granted_part, part_given, part_empty}
 use Rattle.capture.proofs.information.Goals.{Then-r-eq0}
-use borrow.Author.Rules.{rules}
 use Rattle.capture.proofs.information.Goals as goal
 
 -- what the second question's answer 0 says

@@ -10,7 +10,6 @@ use Rattle.sizes.specs.Sizes.{most_frames}
 use Rattle.line.proofs.CaptureLaws.{frames_in}
 use Rattle.capture.specs.Part.{part_rows, part_answer}
 use Rattle.capture.proofs.information_answer.Goals.{Else-not-one_of}
-use borrow.Author.Rules.{rules}
 use Rattle.capture.proofs.information_answer.Goals as goal
 
 few : (c : Else-not-one_of) → c.args.n ≤ most_frames

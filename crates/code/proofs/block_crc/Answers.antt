@@ -4,7 +4,6 @@ use mathlib.Core.Path.{◌∙◌}
 use native.Mathlib.Omega.{arith}
 use Rattle.sizes.specs.Sizes.{info_bytes}
 use Rattle.code.proofs.Plain.{block_part}
-use borrow.Author.Rules.{rules}
 use Rattle.code.proofs.block_crc.Goals as goal
 
 pub returns : goal.returns

@@ -1,10 +1,7 @@
 -- `code::block_crcs` meets its contract. Assumes nothing.
-use Prim.Native.Nat.{◌-◌, ◌*◌}
 use native.Mathlib.Omega.{arith}
-use Rattle.prelude.proofs.Lists.{Filled, filled_more, filled_at}
+use Rattle.prelude.proofs.Lists.{filled_more, filled_at}
 use Rattle.prelude.proofs.LoopLaws.{loops}
-use Rattle.line.specs.Fec.{block_crc}
-use borrow.Author.Rules.{rules}
 use Rattle.code.proofs.block_crcs.Goals as goal
 
 pub loop-t-preserved : goal.loop-t-preserved

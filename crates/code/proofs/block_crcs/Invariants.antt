@@ -1,8 +1,5 @@
 -- `code::block_crcs` meets its contract. Assumes nothing.
-use Prim.Native.Nat.{◌-◌, ◌*◌}
-use native.Mathlib.Omega.{arith}
-use Rattle.prelude.proofs.Lists.{Filled, filled_more, filled_at}
-use Rattle.prelude.proofs.LoopLaws.{loops}
+use Rattle.prelude.proofs.Lists.{Filled}
 use Rattle.line.specs.Fec.{block_crc}
 use Rattle.code.proofs.block_crcs.Given as goal
 

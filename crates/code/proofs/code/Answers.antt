@@ -2,7 +2,6 @@
 use Rattle.answer.proofs.Meets.{meets_done, meets_refused}
 use Rattle.code.specs.Code.{capture_of, code_answer, code_leaves}
 use Rattle.code.proofs.Judging.{code_granted}
-use borrow.Author.Rules.{rules}
 use Rattle.code.proofs.code.Goals as goal
 
 pub code_all-requires : goal.code_all-requires

@@ -1,12 +1,7 @@
 -- `code::group` meets its contract. Assumes nothing.
-use Prim.Native.Nat.{◌-◌, ◌*◌}
 use native.Mathlib.Omega.{arith}
-use Rattle.prelude.specs.Lists.{from_index}
-use Rattle.prelude.proofs.Lists.{Filled, filled_more, filled_all}
+use Rattle.prelude.proofs.Lists.{filled_more, filled_all}
 use Rattle.prelude.proofs.LoopLaws.{loops}
-use Rattle.line.specs.Fec.{fec_bit}
-use Rattle.line.specs.Words.{words_of}
-use borrow.Author.Rules.{rules}
 use Rattle.code.proofs.group.Goals as goal
 
 pub word-requires : goal.word-requires

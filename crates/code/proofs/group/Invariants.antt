@@ -1,9 +1,7 @@
 -- `code::group` meets its contract. Assumes nothing.
-use Prim.Native.Nat.{◌-◌, ◌*◌}
-use native.Mathlib.Omega.{arith}
+use Prim.Native.Nat.{◌*◌}
 use Rattle.prelude.specs.Lists.{from_index}
-use Rattle.prelude.proofs.Lists.{Filled, filled_more, filled_all}
-use Rattle.prelude.proofs.LoopLaws.{loops}
+use Rattle.prelude.proofs.Lists.{Filled}
 use Rattle.line.specs.Fec.{fec_bit}
 use Rattle.line.specs.Words.{words_of}
 use Rattle.code.proofs.group.Given as goal

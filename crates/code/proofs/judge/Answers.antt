@@ -9,7 +9,6 @@ use Rattle.sizes.specs.Sizes.{most_frames}
 use Rattle.line.proofs.CaptureLaws.{frames_in}
 use Rattle.code.specs.Code.{code_rows}
 use Rattle.code.proofs.judge.Goals.{Else-not-numbers_allowed}
-use borrow.Author.Rules.{rules}
 use Rattle.code.proofs.judge.Goals as goal
 
 few : (c : Else-not-numbers_allowed) → c.args.n ≤ most_frames

@@ -3,7 +3,6 @@ use native.Mathlib.Omega.{arith}
 use Rattle.line.specs.Fec.{fec_bit}
 use Rattle.line.proofs.FecLaws.{mbas_lt}
 use Rattle.code.proofs.Plain.{plain_pad, plain_info, plain_tail, plain_parity}
-use borrow.Author.Rules.{rules}
 use Rattle.code.proofs.plain_element.Goals as goal
 
 pub returns-then-l-ge-PAD_ELEMENT : goal.returns-then-l-ge-PAD_ELEMENT

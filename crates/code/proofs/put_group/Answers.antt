@@ -1,10 +1,7 @@
 -- `code::put_group` meets its contract. Assumes nothing.
-use Prim.Native.Nat.{◌-◌}
-use Rattle.prelude.proofs.Lists.{Filled, filled_more, filled_all}
+use Rattle.prelude.proofs.Lists.{filled_more, filled_all}
 use Rattle.prelude.proofs.LoopLaws.{loops}
 use mathlib.Core.Path.{refl}
-use Rattle.code.specs.Steps.{entry}
-use borrow.Author.Rules.{rules}
 use Rattle.code.proofs.put_group.Goals as goal
 
 pub loop-k-preserved : goal.loop-k-preserved

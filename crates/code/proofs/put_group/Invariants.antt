@@ -1,8 +1,5 @@
 -- `code::put_group` meets its contract. Assumes nothing.
-use Prim.Native.Nat.{◌-◌}
-use Rattle.prelude.proofs.Lists.{Filled, filled_more, filled_all}
-use Rattle.prelude.proofs.LoopLaws.{loops}
-use mathlib.Core.Path.{refl}
+use Rattle.prelude.proofs.Lists.{Filled}
 use Rattle.code.specs.Steps.{entry}
 use Rattle.code.proofs.put_group.Given as goal
 

@@ -7,7 +7,6 @@ use Rattle.bits.specs.Bits.{num, bit_at}
 use Rattle.code.proofs.Tails.{byte_crc, byte_mid, byte_high, byte_start}
 use Rattle.code.specs.Steps.{tail_bit}
 use Rattle.code.proofs.Plain.{from_bits}
-use borrow.Author.Rules.{rules}
 use Rattle.code.proofs.tail_byte.Goals as goal
 
 pub returns-then-k-lt4 : goal.returns-then-k-lt4

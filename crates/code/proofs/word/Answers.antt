@@ -6,7 +6,6 @@ use Rattle.line.specs.Slots.{holds}
 use Rattle.line.proofs.SlotLaws.{held}
 use Rattle.code.proofs.Coding.{word_filler, word_held}
 use Rattle.code.proofs.word.Goals.{Else-not-holds_element}
-use borrow.Author.Rules.{rules}
 use Rattle.code.proofs.word.Goals as goal
 
 -- the word was found to hold an element

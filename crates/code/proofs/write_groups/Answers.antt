@@ -1,14 +1,13 @@
 -- `code::write_groups` meets its contract: a group of eight words a turn. Assumes nothing.
 use Prim.Native.Nat.{◌+◌, ◌-◌, ◌*◌}
 use native.Mathlib.Omega.{arith}
-use Rattle.prelude.proofs.Lists.{Filled, filled_none, filled_block, filled_all}
-use Rattle.sizes.specs.Sizes.{capture_length, words, group_size}
+use Rattle.prelude.proofs.Lists.{filled_none, filled_block, filled_all}
+use Rattle.sizes.specs.Sizes.{capture_length, group_size}
 use Rattle.line.specs.Fec.{fec_bit}
-use Rattle.line_order.specs.Order.{byte_by, laid_by, the_line_order}
+use Rattle.line_order.specs.Order.{laid_by}
 use Rattle.line.specs.Words.{words_of}
 use Rattle.code.specs.Code.{capture_of}
 use Rattle.code.proofs.Coding.{group_left}
-use borrow.Author.Rules.{rules}
 use Rattle.code.proofs.write_groups.Goals as goal
 
 pub overflow_mul-g-end : goal.overflow_mul-g-end

@@ -1,13 +1,10 @@
 -- `code::write_groups` meets its contract: a group of eight words a turn. Assumes nothing.
-use Prim.Native.Nat.{◌+◌, ◌-◌, ◌*◌}
-use native.Mathlib.Omega.{arith}
-use Rattle.prelude.proofs.Lists.{Filled, filled_none, filled_block, filled_all}
-use Rattle.sizes.specs.Sizes.{capture_length, words, group_size}
+use Prim.Native.Nat.{◌*◌}
+use Rattle.prelude.proofs.Lists.{Filled}
+use Rattle.sizes.specs.Sizes.{group_size}
 use Rattle.line.specs.Fec.{fec_bit}
-use Rattle.line_order.specs.Order.{byte_by, laid_by, the_line_order}
+use Rattle.line_order.specs.Order.{byte_by, the_line_order}
 use Rattle.line.specs.Words.{words_of}
-use Rattle.code.specs.Code.{capture_of}
-use Rattle.code.proofs.Coding.{group_left}
 use Rattle.code.proofs.write_groups.Given as goal
 
 abbrev pub invariant-loop-g : goal.invariant-loop-g

@@ -1,6 +1,5 @@
 -- `crc` meets its contract: the bits are complemented by the opening, the remainder by the sum with ones. Assumes nothing.
 
-use borrow.Author.Rules.{rules}
 use Rattle.crc.proofs.crc.Goals as goal
 
 pub returns : goal.returns

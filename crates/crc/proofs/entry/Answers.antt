@@ -1,12 +1,9 @@
 -- `entry` meets its contract: after j turns r is what the first j bits leave. Assumes nothing.
-use Prim.Native.Nat.{◌-◌, ◌≤◌}
 use mathlib.Core.Path.{◌≡◌, refl}
 use native.Mathlib.Omega.{arith}
 use Rattle.bits.specs.Bits.{digit}
 use Rattle.crc.specs.Remainder.{rem_from}
-use Rattle.crc.specs.Crc.{crc_rem}
 use Rattle.crc.proofs.Changes.{crc_rem_more}
-use borrow.Author.Rules.{rules}
 use Rattle.crc.proofs.entry.Goals as goal
 
 pub loop-j-init : goal.loop-j-init

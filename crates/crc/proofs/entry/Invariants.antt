@@ -1,11 +1,8 @@
 -- `entry` meets its contract: after j turns r is what the first j bits leave. Assumes nothing.
-use Prim.Native.Nat.{◌-◌, ◌≤◌}
-use mathlib.Core.Path.{◌≡◌, refl}
-use native.Mathlib.Omega.{arith}
+use Prim.Native.Nat.{◌≤◌}
+use mathlib.Core.Path.{◌≡◌}
 use Rattle.bits.specs.Bits.{digit}
-use Rattle.crc.specs.Remainder.{rem_from}
 use Rattle.crc.specs.Crc.{crc_rem}
-use Rattle.crc.proofs.Changes.{crc_rem_more}
 use Rattle.crc.proofs.entry.Given as goal
 
 abbrev pub invariant-loop-j : goal.invariant-loop-j

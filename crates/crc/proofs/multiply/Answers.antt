@@ -1,13 +1,11 @@
 -- `multiply` meets its contract: the digits of b are folded in. Assumes nothing.
-use Prim.Native.Nat.{◌-◌, ◌^◌, ◌≤◌}
+use Prim.Native.Nat.{◌^◌}
 use native.Mathlib.Omega.{arith}
 use Rattle.bits.specs.Bits.{digit}
-use Rattle.prelude.proofs.LoopLaws.{Folded, folded_more, loops}
+use Rattle.prelude.proofs.LoopLaws.{folded_more, loops}
 use Rattle.bits.proofs.Numbers.{digit_lt}
 use Rattle.prelude.proofs.Common.{bit_times}
-use Rattle.crc.specs.Crc.{width, poly}
 use Rattle.crc.specs.Steps.{product_step}
-use borrow.Author.Rules.{rules}
 use Rattle.crc.proofs.multiply.Goals as goal
 
 pub overflow_mul-r : goal.overflow_mul-r

@@ -1,10 +1,6 @@
 -- `multiply` meets its contract: the digits of b are folded in. Assumes nothing.
-use Prim.Native.Nat.{◌-◌, ◌^◌, ◌≤◌}
-use native.Mathlib.Omega.{arith}
-use Rattle.bits.specs.Bits.{digit}
-use Rattle.prelude.proofs.LoopLaws.{Folded, folded_more, loops}
-use Rattle.bits.proofs.Numbers.{digit_lt}
-use Rattle.prelude.proofs.Common.{bit_times}
+use Prim.Native.Nat.{◌≤◌}
+use Rattle.prelude.proofs.LoopLaws.{Folded}
 use Rattle.crc.specs.Crc.{width, poly}
 use Rattle.crc.specs.Steps.{product_step}
 use Rattle.crc.proofs.multiply.Given as goal

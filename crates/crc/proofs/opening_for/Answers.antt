@@ -5,7 +5,6 @@ use native.Mathlib.Omega.{arith}
 use lib.Pow.{pow_mono, pow_pos}
 use Rattle.crc.specs.Steps.{opening}
 use Rattle.crc.proofs.Bytewise.{opening_many, power}
-use borrow.Author.Rules.{rules}
 use Rattle.crc.proofs.opening_for.Goals as goal
 
 pub overflow_sub-result-then-n-lt4 : goal.overflow_sub-result-then-n-lt4

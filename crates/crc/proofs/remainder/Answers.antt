@@ -1,10 +1,5 @@
 -- `remainder` meets its contract: the bytes are folded in. Assumes nothing.
-use Prim.Native.Nat.{◌-◌, ◌≤◌}
-use lib.ListN.{length}
-use Rattle.prelude.proofs.LoopLaws.{Folded, loops}
-use Rattle.crc.specs.Crc.{width}
-use Rattle.crc.specs.Steps.{byte_step}
-use borrow.Author.Rules.{rules}
+use Rattle.prelude.proofs.LoopLaws.{loops}
 use Rattle.crc.proofs.remainder.Goals as goal
 
 pub loop-k-init : goal.loop-k-init

@@ -1,7 +1,7 @@
 -- `remainder` meets its contract: the bytes are folded in. Assumes nothing.
-use Prim.Native.Nat.{◌-◌, ◌≤◌}
+use Prim.Native.Nat.{◌≤◌}
 use lib.ListN.{length}
-use Rattle.prelude.proofs.LoopLaws.{Folded, loops}
+use Rattle.prelude.proofs.LoopLaws.{Folded}
 use Rattle.crc.specs.Crc.{width}
 use Rattle.crc.specs.Steps.{byte_step}
 use Rattle.crc.proofs.remainder.Given as goal

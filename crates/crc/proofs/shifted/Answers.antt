@@ -5,7 +5,6 @@ use native.Mathlib.Omega.{arith}
 use Rattle.crc.specs.Crc.{width, poly}
 use Rattle.crc.specs.Steps.{product}
 use Rattle.crc.proofs.Powers.{by_power}
-use borrow.Author.Rules.{rules}
 use Rattle.crc.proofs.shifted.Goals as goal
 
 pub returns : goal.returns

@@ -1,10 +1,5 @@
 -- `table` meets its contract: entry b is what the byte b leaves. Assumes nothing.
-use Prim.Native.Nat.{◌-◌}
-use Rattle.prelude.proofs.Lists.{Filled}
 use Rattle.prelude.proofs.LoopLaws.{loops}
-use Rattle.crc.specs.Crc.{width, poly}
-use Rattle.crc.specs.Steps.{entry_of}
-use borrow.Author.Rules.{rules}
 use Rattle.crc.proofs.table.Goals as goal
 
 pub loop-b-init : goal.loop-b-init

@@ -1,7 +1,6 @@
 -- `take_bit` meets its contract: it computes what `step` says. Assumes nothing.
 use Rattle.crc.specs.Remainder.{step}
 use Rattle.crc.proofs.Changes.{poly_is}
-use borrow.Author.Rules.{rules}
 use Rattle.crc.proofs.take_bit.Goals as goal
 
 pub returns : goal.returns

@@ -6,7 +6,6 @@ use Rattle.crc.proofs.Bytewise.{bit_place_lt}
 use Rattle.crc.specs.Crc.{width}
 use Rattle.crc.specs.Steps.{byte_step}
 use Rattle.crc.proofs.take_byte.Goals.{After-wide}
-use borrow.Author.Rules.{rules}
 use Rattle.crc.proofs.take_byte.Goals as goal
 
 place : (c : After-wide) → bit_xor (c.args.r / 2 ^ 24) c.wide.result < 256

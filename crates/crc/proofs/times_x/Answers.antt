@@ -2,7 +2,6 @@
 use Rattle.bits.specs.Bits.{digit}
 use Rattle.crc.specs.Remainder.{shift}
 use Rattle.crc.proofs.Changes.{poly_is}
-use borrow.Author.Rules.{rules}
 use Rattle.crc.proofs.times_x.Goals as goal
 
 pub returns : goal.returns

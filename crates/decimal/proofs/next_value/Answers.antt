@@ -3,7 +3,6 @@ use borrow.Author.Tests.{le-ltb, le-leb}
 use Rattle.prelude.proofs.LoopLaws.{tests}
 use native.Mathlib.Omega.{arith}
 use Rattle.decimal.specs.Steps.{next_value}
-use borrow.Author.Rules.{rules}
 use Rattle.decimal.proofs.next_value.Goals as goal
 
 pub returns-then-most-v : goal.returns-then-most-v

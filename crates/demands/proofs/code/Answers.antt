@@ -1,6 +1,5 @@
 -- `demands::code` meets its contract, demand 1 of coding. Assumes nothing.
 use Rattle.code.proofs.Judging.{code_demand_1}
-use borrow.Author.Rules.{rules}
 use Rattle.demands.proofs.code.Goals as goal
 
 pub returns : goal.returns

@@ -1,6 +1,5 @@
 -- `demands::code_edit` meets its contract, demand 3. Assumes nothing.
 use Rattle.demands.proofs.Facts.{edit_stops, edit_follows}
-use borrow.Author.Rules.{rules}
 use Rattle.demands.proofs.code_edit.Goals as goal
 
 pub returns-then-coded-ne0 : goal.returns-then-coded-ne0

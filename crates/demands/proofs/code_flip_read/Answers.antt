@@ -1,6 +1,5 @@
 -- `demands::code_flip_read` meets its contract, demand 2. Assumes nothing.
 use Rattle.demands.proofs.Facts.{read_stops, read_follows}
-use borrow.Author.Rules.{rules}
 use Rattle.demands.proofs.code_flip_read.Goals as goal
 
 pub returns-then-coded-ne0 : goal.returns-then-coded-ne0

@@ -1,6 +1,5 @@
 -- `demands::edit` meets its contract, demand 1 of editing. Assumes nothing.
 use Rattle.edit_spec.proofs.Answers.{edit_demand_1}
-use borrow.Author.Rules.{rules}
 use Rattle.demands.proofs.edit.Goals as goal
 
 pub returns : goal.returns

@@ -1,10 +1,9 @@
 -- `demands::flip_bits` meets its contract: the words are taken one after the other. Assumes nothing.
-use Prim.Native.Nat.{ℕ, ◌-◌, ◌≤◌}
+use Prim.Native.Nat.{ℕ}
 use mathlib.Core.Path.{◌≡◌, refl}
 use mathlib.Core.List.{List}
 use native.Mathlib.Omega.{arith}
-use lib.ListN.{length}
-use Rattle.prelude.proofs.LoopLaws.{Folded, folded_none, folded_more, folded_all}
+use Rattle.prelude.proofs.LoopLaws.{folded_none, folded_more, folded_all}
 use Rattle.line_order.specs.Order.{word_in, the_line_order}
 use Rattle.demand_laws.specs.Demand2.{flip_if}
 use Rattle.demands.specs.Demands.{flips_of}
@@ -24,11 +23,11 @@ loop-w-init c = (folded_none, refl, omega arith)
 
 pub loop-w-preserved : goal.loop-w-preserved
 loop-w-preserved c = let a = c.args in (
-      folded_more c.loop-w.invariant.0
-          (once a.flips.now _ c.loop-w.w c.word_in.ensures c.flip_of.ensures c.flip_word-v.ensures c.put_word.ensures),
-      search rules,
-      omega arith,
-    )
+  folded_more c.loop-w.invariant.0
+      (once a.flips.now _ c.loop-w.w c.word_in.ensures c.flip_of.ensures c.flip_word-v.ensures c.put_word.ensures),
+  search rules,
+  omega arith,
+)
 
 pub shape_of-capture : goal.shape_of-capture
 shape_of-capture c = c.loop-w.invariant.1

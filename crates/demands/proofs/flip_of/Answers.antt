@@ -2,7 +2,6 @@
 use mathlib.Core.Path.{sym, ◌∙◌}
 use lib.ListN.{get_or-eq_default}
 use Rattle.demands.proofs.Flipping.{get_d_any}
-use borrow.Author.Rules.{rules}
 use Rattle.demands.proofs.flip_of.Goals as goal
 
 pub returns-then-w-flips : goal.returns-then-w-flips

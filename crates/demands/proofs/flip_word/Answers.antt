@@ -2,7 +2,6 @@
 use borrow.Author.Tests.{lt-ltb, le-ltb}
 use Rattle.hamming.specs.Code.{flip}
 use Rattle.demand_laws.specs.Demand2.{flip_if}
-use borrow.Author.Rules.{rules}
 use Rattle.demands.proofs.flip_word.Goals as goal
 
 pub returns-then-p-lt-WORD_BITS : goal.returns-then-p-lt-WORD_BITS

@@ -1,7 +1,6 @@
 -- `demands::map_unmap` meets its contract: the round trip of windows. Assumes nothing.
 use Rattle.gmp_map.specs.Steps.{refused_first, went_on}
 use Rattle.gmp_map.proofs.RoundTrip.{round_trip}
-use borrow.Author.Rules.{rules}
 use Rattle.demands.proofs.map_unmap.Goals as goal
 
 pub returns-then-mapped-ne0 : goal.returns-then-mapped-ne0

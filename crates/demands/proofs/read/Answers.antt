@@ -1,6 +1,5 @@
 -- `demands::read` meets its contract, demand 1 of reading. Assumes nothing.
 use Rattle.read_spec.proofs.Judging.{read_demand_1}
-use borrow.Author.Rules.{rules}
 use Rattle.demands.proofs.read.Goals as goal
 
 pub returns : goal.returns

@@ -2,7 +2,6 @@
 use mathlib.Core.Path.{ap, ◌∙◌}
 use Rattle.line_order.specs.Order.{word_in}
 use Rattle.edit_spec.proofs.Remaking.{changed_bit}
-use borrow.Author.Rules.{rules}
 use Rattle.edit.proofs.changed_element.Goals as goal
 
 pub returns : goal.returns

@@ -1,9 +1,7 @@
 -- `edit::crc_change` meets its contract: an element a turn, and then the zeros at once. Assumes nothing.
-use Prim.Native.Nat.{ℕ, ◌+◌, ◌-◌, ◌*◌, ◌/◌, ◌%◌, ◌≤◌, ◌<◌}
-use mathlib.Core.List.{List}
+use Prim.Native.Nat.{ℕ, ◌+◌, ◌-◌, ◌*◌, ◌/◌, ◌%◌, ◌<◌}
 use mathlib.Core.Path.{◌≡◌, ap, ◌∙◌}
 use native.Mathlib.Omega.{arith}
-use Rattle.prelude.specs.Lists.{from_index}
 use Rattle.bits.specs.Bits.{bit_at}
 use Rattle.crc.specs.Remainder.{rem_from}
 use Rattle.crc.specs.Crc.{crc_rem, crc_shift_n}
@@ -11,10 +9,9 @@ use Rattle.crc.proofs.Changes.{crc_rem_piece}
 use Rattle.line_order.specs.Order.{word_in}
 use Rattle.line.specs.Words.{fec_in}
 use Rattle.sizes.specs.Sizes.{info_bits, element_bits, fec_elements}
-use Rattle.edit_spec.specs.Edit.{fec_of, block_from, change, element_local}
+use Rattle.edit_spec.specs.Edit.{fec_of, change, element_local}
 use Rattle.edit_spec.proofs.Listing.{own_element, own_fec, own_in}
 use Rattle.edit_spec.proofs.Changing.{crc_changes}
-use borrow.Author.Rules.{rules}
 use Rattle.edit.proofs.crc_change.Invariants.{first_of, end_of, changes}
 use Rattle.edit.proofs.crc_change.Goals as goal
 

@@ -1,13 +1,10 @@
 -- `edit::crc_word` meets its contract: four bytes, and the zeros that were there. Assumes nothing.
-use Prim.Native.Nat.{◌-◌, ◌≤◌}
 use mathlib.Core.Path.{◌∙◌}
 use native.Mathlib.Omega.{arith}
 use mir.Val.{Fits}
 use mir.Syntax.{w32}
-use Rattle.bits.specs.Bits.{byte_of}
-use Rattle.prelude.proofs.Lists.{Filled, filled_more, filled_to}
+use Rattle.prelude.proofs.Lists.{filled_more, filled_to}
 use Rattle.prelude.proofs.LoopLaws.{loops}
-use Rattle.edit_spec.specs.Steps.{crc_bit}
 use Rattle.edit_spec.proofs.Remaking.{crc_byte, crc_placed}
 use borrow.Author.Rules.{rules}
 use Rattle.edit.proofs.crc_word.Goals as goal

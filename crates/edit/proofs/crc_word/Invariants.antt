@@ -1,14 +1,8 @@
 -- `edit::crc_word` meets its contract: four bytes, and the zeros that were there. Assumes nothing.
-use Prim.Native.Nat.{◌-◌, ◌≤◌}
-use mathlib.Core.Path.{◌∙◌}
-use native.Mathlib.Omega.{arith}
-use mir.Val.{Fits}
-use mir.Syntax.{w32}
+use Prim.Native.Nat.{◌≤◌}
 use Rattle.bits.specs.Bits.{byte_of}
-use Rattle.prelude.proofs.Lists.{Filled, filled_more, filled_to}
-use Rattle.prelude.proofs.LoopLaws.{loops}
+use Rattle.prelude.proofs.Lists.{Filled}
 use Rattle.edit_spec.specs.Steps.{crc_bit}
-use Rattle.edit_spec.proofs.Remaking.{crc_byte, crc_placed}
 use Rattle.edit.proofs.crc_word.Given as goal
 
 abbrev pub invariant-loop-k : goal.invariant-loop-k

@@ -1,6 +1,5 @@
 -- `edit::edit` meets its contract: refused by numbers 1 to 3, or what is checked and done. Assumes nothing.
 use Rattle.edit_spec.proofs.Answers.{edit_accepted, edit_refused}
-use borrow.Author.Rules.{rules}
 use Rattle.edit.proofs.edit.Goals as goal
 
 pub returns-then-r-ne0 : goal.returns-then-r-ne0

@@ -1,6 +1,5 @@
 -- `edit::edit_checked` meets its contract. Assumes nothing.
 use Rattle.edit_spec.proofs.Answers.{nine_outcome, done_outcome}
-use borrow.Author.Rules.{rules}
 use Rattle.edit.proofs.edit_checked.Goals as goal
 
 pub returns-then-w-n : goal.returns-then-w-n

@@ -6,7 +6,6 @@ use lib.Dec.{eqb}
 use Rattle.hamming_table.proofs.Tabled.{by_checks}
 use Rattle.line_order.specs.Order.{word_in}
 use Rattle.line_order.proofs.OrderLaws.{word_bytes_law}
-use borrow.Author.Rules.{rules}
 use Rattle.edit.proofs.fails_check.Goals as goal
 
 pub returns : goal.returns

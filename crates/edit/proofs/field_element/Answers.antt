@@ -1,7 +1,6 @@
 -- `edit::field_element` meets its contract. Assumes nothing.
 use Rattle.edit_spec.specs.Edit.{element_local}
 use Rattle.edit_spec.proofs.Remaking.{field_scrambled}
-use borrow.Author.Rules.{rules}
 use Rattle.edit.proofs.field_element.Goals as goal
 
 pub returns : goal.returns

@@ -1,7 +1,6 @@
 -- `edit::first_refused` meets its contract: no word outside the stretch can fail. Assumes nothing.
-use Prim.Native.Nat.{ℕ, ◌+◌, ◌-◌, ◌≤◌, ◌<◌}
-use mathlib.Core.Bool.{false}
-use mathlib.Core.Path.{◌≡◌, sym, ap, ◌∙◌}
+use Prim.Native.Nat.{◌+◌}
+use mathlib.Core.Path.{sym, ap, ◌∙◌}
 use native.Mathlib.Omega.{arith}
 use Rattle.prelude.proofs.Common.{by_bound}
 use Rattle.prelude.proofs.LoopLaws.{first_is, first_none}
@@ -9,7 +8,6 @@ use Rattle.sizes.specs.Sizes.{words}
 use Rattle.edit_spec.specs.Edit.{fails}
 use Rattle.edit_spec.specs.Steps.{stretch_to}
 use Rattle.edit_spec.proofs.Listing.{fails_between, fails_outside, stretch_within}
-use borrow.Author.Rules.{rules}
 use Rattle.edit.proofs.first_refused.Goals as goal
 
 pub loop-w-init : goal.loop-w-init

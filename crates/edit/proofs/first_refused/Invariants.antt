@@ -1,14 +1,9 @@
 -- `edit::first_refused` meets its contract: no word outside the stretch can fail. Assumes nothing.
-use Prim.Native.Nat.{ℕ, ◌+◌, ◌-◌, ◌≤◌, ◌<◌}
+use Prim.Native.Nat.{ℕ, ◌-◌, ◌≤◌, ◌<◌}
 use mathlib.Core.Bool.{false}
-use mathlib.Core.Path.{◌≡◌, sym, ap, ◌∙◌}
-use native.Mathlib.Omega.{arith}
-use Rattle.prelude.proofs.Common.{by_bound}
-use Rattle.prelude.proofs.LoopLaws.{first_is, first_none}
-use Rattle.sizes.specs.Sizes.{words}
+use mathlib.Core.Path.{◌≡◌}
 use Rattle.edit_spec.specs.Edit.{fails}
 use Rattle.edit_spec.specs.Steps.{stretch_to}
-use Rattle.edit_spec.proofs.Listing.{fails_between, fails_outside, stretch_within}
 use Rattle.edit.proofs.first_refused.Given as goal
 
 abbrev pub invariant-loop-w : goal.invariant-loop-w

@@ -4,7 +4,6 @@ use native.Mathlib.Omega.{arith}
 use borrow.Author.Tests.{leb-true, leb-false}
 use Rattle.sizes.specs.Sizes.{element_bits}
 use Rattle.edit_spec.specs.Edit.{block_from}
-use borrow.Author.Rules.{rules}
 use Rattle.edit.proofs.in_block.Goals as goal
 
 pub returns-then-first-from : goal.returns-then-first-from

@@ -3,7 +3,6 @@ use Prim.Native.Nat.{◌+◌}
 use native.Mathlib.Omega.{arith}
 use borrow.Author.Tests.{leb-true, ltb-true, ltb-false}
 use Rattle.sizes.specs.Sizes.{fec_elements, info_elements}
-use borrow.Author.Rules.{rules}
 use Rattle.edit.proofs.in_tail.Goals as goal
 
 pub returns-then-first-e : goal.returns-then-first-e

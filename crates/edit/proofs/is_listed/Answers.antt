@@ -1,7 +1,6 @@
 -- `edit::is_listed` meets its contract. Assumes nothing.
 use mathlib.Core.Path.{◌∙◌}
 use Rattle.edit_spec.proofs.Listing.{listed_tail, listed_block, listed_neither}
-use borrow.Author.Rules.{rules}
 use Rattle.edit.proofs.is_listed.Goals as goal
 
 pub returns-then-in_tail : goal.returns-then-in_tail

@@ -1,8 +1,6 @@
 -- `edit::is_refused` meets its contract. Assumes nothing.
 use mathlib.Core.Path.{sym, ◌∙◌}
-use borrow.Author.Tests.{not-true, not-false}
 use Rattle.edit_spec.proofs.Listing.{fails_unlisted, fails_listed}
-use borrow.Author.Rules.{rules}
 use Rattle.edit.proofs.is_refused.Goals as goal
 
 pub returns-then-not-is_listed : goal.returns-then-not-is_listed

@@ -9,7 +9,6 @@ use Rattle.sizes.specs.Sizes.{most_frames}
 use Rattle.line.proofs.CaptureLaws.{frames_in}
 use Rattle.edit_spec.specs.Edit.{edit_early_rows}
 use Rattle.edit.proofs.judge.Goals.{Else-not-one_of}
-use borrow.Author.Rules.{rules}
 use Rattle.edit.proofs.judge.Goals as goal
 
 few : (c : Else-not-one_of) → c.args.n ≤ most_frames

@@ -3,7 +3,6 @@ use native.Mathlib.Omega.{arith}
 use Rattle.line_order.specs.Order.{word_in}
 use Rattle.edit_spec.specs.Edit.{element_local}
 use Rattle.edit_spec.proofs.Remaking.{block_made, tail_made, parity_made}
-use borrow.Author.Rules.{rules}
 use Rattle.edit.proofs.new_element.Goals as goal
 
 pub returns-then-m-gt-INFO_ELEMENTS : goal.returns-then-m-gt-INFO_ELEMENTS

@@ -5,7 +5,6 @@ use Rattle.line_order.specs.Order.{word_in}
 use Rattle.hamming_table.proofs.Tabled.{by_word}
 use Rattle.edit_spec.specs.Steps.{new_element}
 use Rattle.edit_spec.proofs.Remaking.{made_anew}
-use borrow.Author.Rules.{rules}
 use Rattle.edit.proofs.new_word.Goals as goal
 
 pub returns : goal.returns

@@ -1,7 +1,6 @@
 -- `edit::pass_word` meets its contract. Assumes nothing.
 use mathlib.Core.Path.{sym, ◌∙◌}
 use Rattle.edit_spec.proofs.Passes.{word_passed_yes, word_passed_no}
-use borrow.Author.Rules.{rules}
 use Rattle.edit.proofs.pass_word.Goals as goal
 
 pub returns-then-is_listed : goal.returns-then-is_listed

@@ -1,11 +1,8 @@
 -- `edit::rewrite` meets its contract: no word outside the stretch is listed. Assumes nothing.
-use Prim.Native.Nat.{◌-◌, ◌≤◌}
 use native.Mathlib.Omega.{arith}
 use Rattle.sizes.specs.Sizes.{words}
-use Rattle.edit_spec.specs.Steps.{stretch_to, Passing}
 use Rattle.edit_spec.proofs.Listing.{listed_outside, listed_between, stretch_within}
 use Rattle.edit_spec.proofs.Passes.{passing_start, passing_skip, passing_long, passing_entries, passing_few, passing_word}
-use borrow.Author.Rules.{rules}
 use Rattle.edit.proofs.rewrite.Goals as goal
 
 pub loop-w-init : goal.loop-w-init

@@ -6,7 +6,6 @@ use Rattle.bits.specs.Bits.{pack}
 use Rattle.sizes.specs.Sizes.{parity_from, fec_bits, word_bytes}
 use Rattle.edit_spec.specs.Steps.{with_field}
 use Rattle.edit_spec.proofs.Remaking.{crc_summed}
-use borrow.Author.Rules.{rules}
 use Rattle.edit.proofs.tail_element.Goals as goal
 
 pub returns : goal.returns

@@ -1,5 +1,5 @@
 -- `edit::take_element` meets its contract: a bit a turn. Assumes nothing.
-use Prim.Native.Nat.{◌-◌, ◌≤◌, ◌<◌}
+use Prim.Native.Nat.{◌<◌}
 use mathlib.Core.Path.{◌≡◌, refl, ap, ◌∙◌}
 use native.Mathlib.Nat.{mod-eq_of_lt}
 use native.Mathlib.Omega.{arith}
@@ -8,9 +8,7 @@ use Rattle.bits.proofs.Packing.{bit_of_lt}
 use Rattle.crc.specs.Remainder.{rem_from}
 use Rattle.crc.specs.Crc.{width, poly, crc_step}
 use Rattle.crc.proofs.Changes.{crc_rem_more}
-use Rattle.prelude.proofs.LoopLaws.{loops}
 use Rattle.sizes.specs.Sizes.{element_bits}
-use borrow.Author.Rules.{rules}
 use Rattle.edit.proofs.take_element.Goals as goal
 
 pub loop-i-init : goal.loop-i-init

@@ -1,7 +1,6 @@
 -- `edit::with_field` meets its contract. Assumes nothing.
 use Rattle.edit_spec.specs.Edit.{element_local}
 use Rattle.edit_spec.proofs.Remaking.{field_masked}
-use borrow.Author.Rules.{rules}
 use Rattle.edit.proofs.with_field.Goals as goal
 
 pub returns : goal.returns

@@ -1,5 +1,5 @@
 -- The cycle of `data_runs` and `stuff_runs` meets its contracts: what is left behind the run of place j is handed over. Assumes nothing.
-use Rattle.std.proofs.Common.{◌≡◌, ℕ, ◌+◌, ap, ◌∙◌, arith}
+use Rattle.std.proofs.Common.{ℕ, ◌+◌, ap, ◌∙◌, arith}
 use mathlib.Core.Bool.{not}
 use Rattle.gmp.proofs.Stretches.{runs_few}
 use Rattle.gmp.proofs.Ends.{ended, handed}

@@ -1,6 +1,5 @@
 -- `gmp::data_in` meets its contract: the laws `data_outside` and `data_in_law`. Assumes nothing.
 use native.Mathlib.Omega.{arith}
-use borrow.Author.Rules.{rules}
 use Rattle.gmp.specs.Steps.{Stretch}
 use Rattle.gmp.proofs.Allowed.{stretch_in}
 use Rattle.gmp.proofs.Counts.{stretch_product, before_product, data_outside, data_in_law}

@@ -3,7 +3,6 @@ use mathlib.Core.Path.{refl}
 use native.Mathlib.Omega.{arith}
 use Rattle.gmp.specs.Places.{is_data}
 use Rattle.gmp.proofs.Residues.{residue_product}
-use borrow.Author.Rules.{rules}
 use Rattle.gmp.proofs.is_data.Goals as goal
 
 pub overflow_mul-result : goal.overflow_mul-result

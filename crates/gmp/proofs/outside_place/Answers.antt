@@ -1,6 +1,5 @@
 -- `gmp::outside_place` meets its contract: each return by the tests that led there. Assumes nothing.
 use borrow.Author.Tests.{lt-ltb, le-ltb}
-use borrow.Author.Rules.{rules}
 use Rattle.gmp.proofs.outside_place.Goals as goal
 
 pub returns-then-c-gt-PLACES : goal.returns-then-c-gt-PLACES

@@ -4,7 +4,6 @@ use borrow.Author.Tests.{lt-ltb, le-ltb}
 use native.Mathlib.Omega.{arith}
 use Rattle.sizes.specs.Sizes.{places}
 use Rattle.gmp.proofs.Counts.{ends_late}
-use borrow.Author.Rules.{rules}
 use Rattle.gmp.proofs.outside_stretch.Goals as goal
 
 pub returns-then-c-gt-PLACES : goal.returns-then-c-gt-PLACES

@@ -1,6 +1,5 @@
 -- `gmp::run` meets its contract: a run request is refused, or answered by the kind and the last place. Assumes nothing.
 use Rattle.gmp.proofs.Asked.{asked}
-use borrow.Author.Rules.{rules}
 use Rattle.gmp.proofs.run.Goals as goal
 
 pub returns-then-outside_place : goal.returns-then-outside_place

@@ -1,8 +1,6 @@
 -- `gmp::runs` meets its contract: the two functions that take turns count. Assumes nothing.
 use Rattle.answer.proofs.Turns.{turns}
 use Rattle.gmp.specs.Answers.{runs_of}
-use Rattle.gmp.proofs.Asked.{asked}
-use borrow.Author.Rules.{rules}
 use Rattle.gmp.proofs.runs.Goals as goal
 
 pub returns-then-outside_place : goal.returns-then-outside_place

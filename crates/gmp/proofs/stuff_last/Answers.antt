@@ -2,7 +2,6 @@
 use native.Mathlib.Omega.{arith}
 use Rattle.gmp.proofs.Residues.{residue_product}
 use Rattle.gmp.proofs.Ends.{all_stuff, stuff_last, last_to}
-use borrow.Author.Rules.{rules}
 use Rattle.gmp.proofs.stuff_last.Goals as goal
 
 pub overflow_mul-result : goal.overflow_mul-result

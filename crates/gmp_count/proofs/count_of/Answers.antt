@@ -1,6 +1,5 @@
 -- `gmp_count::count_of` meets its contract: the law `read_by`. Assumes nothing.
 use Rattle.gmp_count.proofs.Whole.{read_by}
-use borrow.Author.Rules.{rules}
 use Rattle.gmp_count.proofs.count_of.Goals as goal
 
 pub returns : goal.returns

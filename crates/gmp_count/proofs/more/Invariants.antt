@@ -1,7 +1,7 @@
 -- `gmp_count::more` meets its contract: a byte a turn. Assumes nothing.
-use Prim.Native.Nat.{◌-◌, ◌≤◌}
+use Prim.Native.Nat.{◌≤◌}
 use lib.ListN.{length}
-use Rattle.prelude.proofs.LoopLaws.{Folded, loops}
+use Rattle.prelude.proofs.LoopLaws.{Folded}
 use Rattle.gmp_count.specs.Steps.{step_at}
 use Rattle.gmp_count.proofs.more.Given as goal
 

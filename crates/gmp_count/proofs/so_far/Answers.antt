@@ -1,7 +1,6 @@
 -- `gmp_count::so_far` meets its contract: its tests in turn. Assumes nothing.
 use Rattle.answer.proofs.Turns.{turns}
 use Rattle.gmp_count.specs.Steps.{so_far}
-use borrow.Author.Rules.{rules}
 use Rattle.gmp_count.proofs.so_far.Goals as goal
 
 pub returns : goal.returns

@@ -1,6 +1,5 @@
 -- `gmp_count::step` meets its contract: each return by the tests that led there. Assumes nothing.
 use Rattle.gmp_count.proofs.Stepping.{steps}
-use borrow.Author.Rules.{rules}
 use Rattle.gmp_count.proofs.step.Goals as goal
 
 pub returns-then-kept : goal.returns-then-kept

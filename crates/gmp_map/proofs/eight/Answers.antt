@@ -1,6 +1,5 @@
 -- `gmp_map::eight` meets its contract: the bits, or zeros. Assumes nothing.
 use Rattle.gmp_map.proofs.Pairs.{pairs}
-use borrow.Author.Rules.{rules}
 use Rattle.gmp_map.proofs.eight.Goals as goal
 
 pub returns-else-on : goal.returns-else-on

@@ -1,15 +1,12 @@
 -- `gmp_map::fill_groups` meets its contract: two groups a turn. Assumes nothing.
-use Prim.Native.Nat.{◌+◌, ◌-◌, ◌*◌, ◌/◌, ◌≤◌, min}
+use Prim.Native.Nat.{◌-◌, ◌*◌}
 use mathlib.Core.Path.{◌≡◌}
 use native.Mathlib.Omega.{arith}
 use lib.ListN.{length, take, drop, length-take, length-drop}
-use Rattle.bits.specs.Bits.{byte_of}
-use Rattle.prelude.proofs.Lists.{Filled, filled_none, filled_to, filled_all}
+use Rattle.prelude.proofs.Lists.{filled_none, filled_to, filled_all}
 use Rattle.sizes.specs.Sizes.{pair_bytes}
-use Rattle.gmp_map.specs.Groups.{groups_bit}
 use Rattle.gmp_window.proofs.Judging.{data_window}
 use Rattle.gmp_map.proofs.Pairs.{pairs_filled}
-use borrow.Author.Rules.{rules}
 use Rattle.gmp_map.proofs.fill_groups.Goals as goal
 
 pub overflow_add-p-end : goal.overflow_add-p-end

@@ -1,14 +1,10 @@
 -- `gmp_map::fill_groups` meets its contract: two groups a turn. Assumes nothing.
-use Prim.Native.Nat.{◌+◌, ◌-◌, ◌*◌, ◌/◌, ◌≤◌, min}
-use mathlib.Core.Path.{◌≡◌}
-use native.Mathlib.Omega.{arith}
-use lib.ListN.{length, take, drop, length-take, length-drop}
+use Prim.Native.Nat.{◌+◌, ◌*◌, ◌/◌, ◌≤◌, min}
+use lib.ListN.{length}
 use Rattle.bits.specs.Bits.{byte_of}
-use Rattle.prelude.proofs.Lists.{Filled, filled_none, filled_to, filled_all}
+use Rattle.prelude.proofs.Lists.{Filled}
 use Rattle.sizes.specs.Sizes.{pair_bytes}
 use Rattle.gmp_map.specs.Groups.{groups_bit}
-use Rattle.gmp_window.proofs.Judging.{data_window}
-use Rattle.gmp_map.proofs.Pairs.{pairs_filled}
 use Rattle.gmp_map.proofs.fill_groups.Given as goal
 
 abbrev pub invariant-loop-p : goal.invariant-loop-p

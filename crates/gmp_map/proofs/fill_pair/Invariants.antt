@@ -1,9 +1,6 @@
 -- `gmp_map::fill_pair` meets its contract: byte by byte. Assumes nothing.
-use Prim.Native.Nat.{◌-◌}
-use lib.ListN.{length}
 use Rattle.bits.specs.Bits.{byte_of}
 use Rattle.prelude.proofs.Lists.{Filled}
-use Rattle.prelude.proofs.LoopLaws.{loops}
 use Rattle.gmp_map.specs.Steps.{pair_bit}
 use Rattle.gmp_map.proofs.fill_pair.Given as goal
 

@@ -1,6 +1,5 @@
 -- `gmp_map::fill_places` meets its contract: the law `window_pair`. Assumes nothing.
 use Rattle.gmp_map.proofs.Filling.{window_pair}
-use borrow.Author.Rules.{rules}
 use Rattle.gmp_map.proofs.fill_places.Goals as goal
 
 pub returns : goal.returns

@@ -1,7 +1,6 @@
 -- `gmp_map::fill_two` meets its contract: the law `groups_pair`. Assumes nothing.
 use lib.ListN.{length}
 use Rattle.gmp_map.proofs.Filling.{groups_pair}
-use borrow.Author.Rules.{rules}
 use Rattle.gmp_map.proofs.fill_two.Goals as goal
 
 pub returns : goal.returns

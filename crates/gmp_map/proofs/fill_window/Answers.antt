@@ -1,13 +1,10 @@
 -- `gmp_map::fill_window` meets its contract: two places a turn. Assumes nothing.
-use Prim.Native.Nat.{◌+◌, ◌-◌, ◌*◌, ◌/◌, ◌≤◌}
+use Prim.Native.Nat.{◌+◌, ◌*◌}
 use native.Mathlib.Omega.{arith}
 use lib.ListN.{length-take, length-drop}
-use Rattle.bits.specs.Bits.{byte_of}
-use Rattle.prelude.proofs.Lists.{Filled, filled_none, filled_to, filled_all}
+use Rattle.prelude.proofs.Lists.{filled_none, filled_to, filled_all}
 use Rattle.sizes.specs.Sizes.{pair_bytes}
-use Rattle.gmp_map.specs.Groups.{window_bit}
 use Rattle.gmp_map.proofs.Pairs.{pairs_filled}
-use borrow.Author.Rules.{rules}
 use Rattle.gmp_map.proofs.fill_window.Goals as goal
 
 pub loop-p-init : goal.loop-p-init

@@ -1,12 +1,9 @@
 -- `gmp_map::fill_window` meets its contract: two places a turn. Assumes nothing.
-use Prim.Native.Nat.{◌+◌, ◌-◌, ◌*◌, ◌/◌, ◌≤◌}
-use native.Mathlib.Omega.{arith}
-use lib.ListN.{length-take, length-drop}
+use Prim.Native.Nat.{◌*◌, ◌/◌, ◌≤◌}
 use Rattle.bits.specs.Bits.{byte_of}
-use Rattle.prelude.proofs.Lists.{Filled, filled_none, filled_to, filled_all}
+use Rattle.prelude.proofs.Lists.{Filled}
 use Rattle.sizes.specs.Sizes.{pair_bytes}
 use Rattle.gmp_map.specs.Groups.{window_bit}
-use Rattle.gmp_map.proofs.Pairs.{pairs_filled}
 use Rattle.gmp_map.proofs.fill_window.Given as goal
 
 abbrev pub invariant-loop-p : goal.invariant-loop-p

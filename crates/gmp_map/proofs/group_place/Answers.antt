@@ -1,7 +1,6 @@
 -- `gmp_map::group_place` meets its contract: the laws `no_group` and `some_group`. Assumes nothing.
 use native.Mathlib.Omega.{arith}
 use Rattle.gmp_map.proofs.Ranks.{Located, located, no_group, some_group}
-use borrow.Author.Rules.{rules}
 use Rattle.gmp_map.proofs.group_place.Goals.{Else-d-q}
 use Rattle.gmp_map.proofs.group_place.Goals as goal
 

@@ -2,7 +2,6 @@
 use lib.ListN.{length}
 use Rattle.answer.proofs.Meets.{meets_done, meets_refused}
 use Rattle.gmp_window.proofs.Judging.{map_taken}
-use borrow.Author.Rules.{rules}
 use Rattle.gmp_map.proofs.map.Goals as goal
 
 pub fill_window-requires : goal.fill_window-requires

@@ -1,6 +1,5 @@
 -- `gmp_map::pair_byte` meets its contract: of the first piece, of the second, or four bits of each. Assumes nothing.
 use Rattle.gmp_map.proofs.Pairs.{pairs}
-use borrow.Author.Rules.{rules}
 use Rattle.gmp_map.proofs.pair_byte.Goals as goal
 
 pub returns-then-k-lt128 : goal.returns-then-k-lt128

@@ -2,7 +2,6 @@
 use lib.ListN.{length}
 use Rattle.answer.proofs.Meets.{meets_done, meets_refused}
 use Rattle.gmp_window.proofs.Judging.{unmap_taken}
-use borrow.Author.Rules.{rules}
 use Rattle.gmp_map.proofs.unmap.Goals as goal
 
 pub fill_groups-requires : goal.fill_groups-requires

@@ -2,8 +2,7 @@
 use Rattle.answer.specs.Steps.{in_turn, row_then, faults_then}
 use Rattle.answer.proofs.Turns.{turns}
 use Rattle.gmp_window.specs.Answers.{unmap_answer}
-use Rattle.gmp_window.proofs.Judging.{few_places, unmap_late_law}
-use borrow.Author.Rules.{rules}
+use Rattle.gmp_window.proofs.Judging.{unmap_late_law}
 use Rattle.gmp_window.proofs.unmap_answer.Goals as goal
 
 pub returns-then-outside_window : goal.returns-then-outside_window

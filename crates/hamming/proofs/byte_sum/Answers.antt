@@ -1,15 +1,13 @@
 -- `hamming::byte_sum` meets its contract: the invariant adds up the columns of the bits that are in. Assumes nothing.
-use Prim.Native.Nat.{ℕ, ◌+◌, ◌-◌, ◌*◌}
+use Prim.Native.Nat.{ℕ, ◌+◌, ◌*◌}
 use mathlib.Core.List.{List}
 use mathlib.Core.Path.{ap, ap₂, ◌∙◌}
 use lib.ListN.{get_or}
 use Rattle.bits.proofs.Numbers.{digit_lt}
-use Rattle.bits.specs.Bits.{digit}
 use Rattle.hamming_matrix.specs.Columns.{column_of}
 use Rattle.hamming_matrix.specs.Sums.{column_taken}
 use Rattle.hamming.specs.Steps.{byte_sum}
-use Rattle.hamming_matrix.proofs.Sums.{Summed, summed_none, summed_more, summed_all}
-use borrow.Author.Rules.{rules}
+use Rattle.hamming_matrix.proofs.Sums.{summed_none, summed_more, summed_all}
 use Rattle.hamming.proofs.byte_sum.Goals as goal
 
 pub loop-j-init : goal.loop-j-init

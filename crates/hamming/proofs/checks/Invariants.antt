@@ -1,9 +1,7 @@
 -- `hamming::checks` meets its contract: the sum over the bytes is the sum over the bits (`checks_bytes`). Assumes nothing.
-use Prim.Native.Nat.{◌-◌}
-use mathlib.Core.Path.{◌∙◌}
 use Rattle.sizes.specs.Sizes.{word_bytes}
-use Rattle.hamming.proofs.ByBytes.{byte_of_sum, checks_bytes}
-use Rattle.hamming_matrix.proofs.Sums.{Summed, summed_none, summed_more, summed_all}
+use Rattle.hamming.proofs.ByBytes.{byte_of_sum}
+use Rattle.hamming_matrix.proofs.Sums.{Summed}
 use Rattle.hamming.proofs.checks.Given as goal
 
 abbrev pub invariant-loop-k : goal.invariant-loop-k

@@ -10,7 +10,6 @@ use Rattle.hamming.specs.Code.{checks_of, joined_word}
 use Rattle.hamming_matrix.proofs.Matrix.{tail_lt}
 use Rattle.hamming.proofs.Words.{checks_lt}
 use Rattle.hamming.proofs.ByBytes.{word_closed}
-use borrow.Author.Rules.{rules}
 use Rattle.hamming.proofs.encode.Goals as goal
 
 pub tail-requires : goal.tail-requires

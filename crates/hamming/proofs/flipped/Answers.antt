@@ -1,7 +1,6 @@
 -- `hamming::flipped` meets its contract: it is the definition. Assumes nothing.
 use mathlib.Core.Path.{refl}
 use Rattle.hamming.specs.Code.{flip}
-use borrow.Author.Rules.{rules}
 use Rattle.hamming.proofs.flipped.Goals as goal
 
 pub returns : goal.returns

@@ -3,7 +3,6 @@ use mathlib.Core.Path.{refl}
 use Rattle.sizes.specs.Sizes.{check_values}
 use Rattle.hamming_matrix.specs.Columns.{position_of}
 use Rattle.hamming.proofs.ByBytes.{entry_is}
-use borrow.Author.Rules.{rules}
 use Rattle.hamming.proofs.position.Goals as goal
 
 pub returns : goal.returns

@@ -3,7 +3,6 @@ use mathlib.Core.Path.{ap, ap₂, ◌∙◌}
 use Rattle.hamming_matrix.specs.Columns.{position_of}
 use Rattle.hamming.specs.Repair.{repair_at, repair_of}
 use Rattle.hamming.proofs.Words.{checks_lt}
-use borrow.Author.Rules.{rules}
 use Rattle.hamming.proofs.repair.Goals as goal
 
 pub position-requires : goal.position-requires

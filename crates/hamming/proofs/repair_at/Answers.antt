@@ -7,7 +7,6 @@ use Rattle.prelude.proofs.LoopLaws.{tests}
 use Rattle.hamming.specs.declared.Found.TheVariants.{Flipped}
 use Rattle.hamming.specs.Repair.{answer, repair_at}
 use Rattle.hamming.proofs.Repairs.{at_flipped}
-use borrow.Author.Rules.{rules}
 use Rattle.hamming.proofs.repair_at.Goals as goal
 
 pub returns-then-c-eq0 : goal.returns-then-c-eq0

@@ -2,7 +2,6 @@
 use mathlib.Core.Path.{refl}
 use Rattle.prelude.specs.Lists.{tabulate}
 use Rattle.hamming_matrix.specs.Columns.{columns, place_in, position_of}
-use borrow.Author.Rules.{rules}
 use Rattle.hamming_matrix.proofs.position_table.Goals as goal
 
 pub returns : goal.returns

@@ -4,7 +4,6 @@ use Rattle.prelude.specs.Lists.{tabulate}
 use Rattle.bits.specs.Bits.{digit}
 use Rattle.hamming_matrix.specs.Columns.{columns, column_of, place_in}
 use Rattle.hamming_matrix.specs.Sums.{sum_to, column_taken, tail_sum, tail_sums, tail_of}
-use borrow.Author.Rules.{rules}
 use Rattle.hamming_matrix.proofs.tail_table.Goals as goal
 
 pub returns : goal.returns

@@ -1,11 +1,9 @@
 -- `hamming_table::byte_table` meets its contract: row after row. Assumes nothing.
-use Prim.Native.Nat.{◌+◌, ◌-◌, ◌*◌, ◌≤◌}
+use Prim.Native.Nat.{◌+◌, ◌*◌}
 use mathlib.Core.Path.{refl}
 use native.Mathlib.Omega.{arith}
 use Rattle.sizes.specs.Sizes.{word_bytes}
-use Rattle.hamming_table.specs.Steps.{EntriesBegun}
 use Rattle.hamming_table.proofs.Doubling.{begun_none, begun_to, entries_begun_all}
-use borrow.Author.Rules.{rules}
 use Rattle.hamming_table.proofs.byte_table.Goals as goal
 
 pub loop-k-init : goal.loop-k-init

@@ -1,10 +1,7 @@
 -- `hamming_table::byte_table` meets its contract: row after row. Assumes nothing.
-use Prim.Native.Nat.{◌+◌, ◌-◌, ◌*◌, ◌≤◌}
-use mathlib.Core.Path.{refl}
-use native.Mathlib.Omega.{arith}
+use Prim.Native.Nat.{◌*◌, ◌≤◌}
 use Rattle.sizes.specs.Sizes.{word_bytes}
 use Rattle.hamming_table.specs.Steps.{EntriesBegun}
-use Rattle.hamming_table.proofs.Doubling.{begun_none, begun_to, entries_begun_all}
 use Rattle.hamming_table.proofs.byte_table.Given as goal
 
 abbrev pub invariant-loop-k : goal.invariant-loop-k

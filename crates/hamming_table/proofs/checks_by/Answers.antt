@@ -1,9 +1,6 @@
 -- `hamming_table::checks_by` meets its contract: the invariant adds up the entries of the bytes that are in. Assumes nothing.
-use Prim.Native.Nat.{◌-◌}
-use Rattle.sizes.specs.Sizes.{word_bytes}
 use Rattle.hamming_table.specs.Steps.{entry_at, sum_by}
-use Rattle.hamming_matrix.proofs.Sums.{Summed, summed_none, summed_more, summed_all}
-use borrow.Author.Rules.{rules}
+use Rattle.hamming_matrix.proofs.Sums.{summed_none, summed_more, summed_all}
 use Rattle.hamming_table.proofs.checks_by.Goals as goal
 
 pub loop-k-init : goal.loop-k-init

@@ -1,9 +1,7 @@
 -- `hamming_table::double` meets its contract: what is begun goes on by one entry at a turn. Assumes nothing.
-use Prim.Native.Nat.{◌+◌, ◌-◌, ◌*◌, ◌≤◌}
+use Prim.Native.Nat.{◌+◌, ◌*◌}
 use native.Mathlib.Omega.{arith}
-use Rattle.hamming_table.specs.Steps.{EntriesBegun}
 use Rattle.hamming_table.proofs.Doubling.{begun_to, begun_double}
-use borrow.Author.Rules.{rules}
 use Rattle.hamming_table.proofs.double.Goals as goal
 
 pub loop-r-init : goal.loop-r-init
@@ -11,10 +9,10 @@ loop-r-init c = (omega arith, begun_to (c.args.at + c.args.n + 0) c.requires.2 (
 
 pub loop-r-preserved : goal.loop-r-preserved
 loop-r-preserved c = (
-      omega arith,
-      begun_double c.args.at c.args.n c.args.c c.loop-r.r c.loop-r.t c.requires.1 c.loop-r.invariant.1 c.loop-r-test.true
-          c.requires.0,
-    )
+  omega arith,
+  begun_double c.args.at c.args.n c.args.c c.loop-r.r c.loop-r.t c.requires.1 c.loop-r.invariant.1 c.loop-r-test.true
+      c.requires.0,
+)
 
 pub returns : goal.returns
 returns c = let h = c.loop-r in

@@ -1,8 +1,6 @@
 -- `hamming_table::double` meets its contract: what is begun goes on by one entry at a turn. Assumes nothing.
-use Prim.Native.Nat.{◌+◌, ◌-◌, ◌*◌, ◌≤◌}
-use native.Mathlib.Omega.{arith}
+use Prim.Native.Nat.{◌+◌, ◌≤◌}
 use Rattle.hamming_table.specs.Steps.{EntriesBegun}
-use Rattle.hamming_table.proofs.Doubling.{begun_to, begun_double}
 use Rattle.hamming_table.proofs.double.Given as goal
 
 abbrev pub invariant-loop-r : goal.invariant-loop-r

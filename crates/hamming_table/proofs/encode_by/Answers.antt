@@ -6,7 +6,6 @@ use Rattle.sizes.specs.Sizes.{check_values}
 use Rattle.bits.specs.Bits.{bit_at}
 use Rattle.hamming.specs.Code.{joined_word}
 use Rattle.hamming_table.specs.Steps.{sum_by, word_by_tables}
-use borrow.Author.Rules.{rules}
 use Rattle.hamming_table.proofs.encode_by.Goals as goal
 
 pub returns : goal.returns

@@ -1,13 +1,11 @@
 -- `hamming_table::fill_row` meets its contract: before turn j the row has its first 2 ^ j entries. Assumes nothing.
-use Prim.Native.Nat.{ℕ, ◌+◌, ◌-◌, ◌*◌, ◌^◌, ◌≤◌}
+use Prim.Native.Nat.{ℕ, ◌+◌, ◌-◌, ◌*◌, ◌^◌}
 use mathlib.Core.Path.{◌≡◌, refl, ap, ◌∙◌}
 use mathlib.Core.List.{List}
 use native.Mathlib.Omega.{arith}
 use lib.ListN.{get_or}
 use Rattle.hamming_matrix.specs.Columns.{column_of}
-use Rattle.hamming_table.specs.Steps.{EntriesBegun}
 use Rattle.hamming_table.proofs.Doubling.{begun_to, begun_row, row_room, row_next, row_doubles}
-use borrow.Author.Rules.{rules}
 use Rattle.hamming_table.proofs.fill_row.Goals as goal
 
 pub loop-j-init : goal.loop-j-init

@@ -1,12 +1,7 @@
 -- `hamming_table::fill_row` meets its contract: before turn j the row has its first 2 ^ j entries. Assumes nothing.
-use Prim.Native.Nat.{ℕ, ◌+◌, ◌-◌, ◌*◌, ◌^◌, ◌≤◌}
-use mathlib.Core.Path.{◌≡◌, refl, ap, ◌∙◌}
-use mathlib.Core.List.{List}
-use native.Mathlib.Omega.{arith}
-use lib.ListN.{get_or}
-use Rattle.hamming_matrix.specs.Columns.{column_of}
+use Prim.Native.Nat.{◌+◌, ◌*◌, ◌^◌, ◌≤◌}
+use mathlib.Core.Path.{◌≡◌}
 use Rattle.hamming_table.specs.Steps.{EntriesBegun}
-use Rattle.hamming_table.proofs.Doubling.{begun_to, begun_row, row_room, row_next, row_doubles}
 use Rattle.hamming_table.proofs.fill_row.Given as goal
 
 abbrev pub invariant-loop-j : goal.invariant-loop-j

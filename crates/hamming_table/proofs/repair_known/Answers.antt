@@ -1,7 +1,6 @@
 -- `hamming_table::repair_known` meets its contract: what the callees say, put together. Assumes nothing.
 use mathlib.Core.Path.{ap, ◌∙◌}
 use Rattle.hamming.specs.Repair.{repair_at}
-use borrow.Author.Rules.{rules}
 use Rattle.hamming_table.proofs.repair_known.Goals as goal
 
 pub returns : goal.returns

@@ -1,7 +1,6 @@
 -- `line::block_number` meets its contract. Assumes nothing.
 use native.Mathlib.Omega.{arith}
 use Rattle.line.specs.Fec.{block_number}
-use borrow.Author.Rules.{rules}
 use Rattle.line.proofs.block_number.Goals as goal
 
 pub returns : goal.returns

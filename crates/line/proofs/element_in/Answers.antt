@@ -1,7 +1,6 @@
 -- `line::element_in` meets its contract. Assumes nothing.
 use native.Mathlib.Omega.{arith}
 use Rattle.line.specs.Slots.{element_in}
-use borrow.Author.Rules.{rules}
 use Rattle.line.proofs.element_in.Goals as goal
 
 pub returns-then-d-w : goal.returns-then-d-w

@@ -1,7 +1,6 @@
 -- `line::holds_element` meets its contract. Assumes nothing.
 use Rattle.line.proofs.SlotLaws.{holds_before, holds_from}
 use native.Mathlib.Omega.{arith}
-use borrow.Author.Rules.{rules}
 use Rattle.line.proofs.holds_element.Goals as goal
 
 pub returns-then-w-d : goal.returns-then-w-d

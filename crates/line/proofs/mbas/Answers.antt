@@ -1,7 +1,6 @@
 -- `line::mbas` meets its contract. Assumes nothing.
 use native.Mathlib.Omega.{arith}
 use Rattle.line.specs.Fec.{block_number, mbas_of}
-use borrow.Author.Rules.{rules}
 use Rattle.line.proofs.mbas.Goals as goal
 
 pub overflow_cast-result : goal.overflow_cast-result

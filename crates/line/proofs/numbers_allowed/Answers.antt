@@ -1,6 +1,5 @@
 -- `line::numbers_allowed` meets its contract. Assumes nothing.
 
-use borrow.Author.Rules.{rules}
 use Rattle.line.proofs.numbers_allowed.Goals as goal
 
 pub returns-then-super_allowed : goal.returns-then-super_allowed

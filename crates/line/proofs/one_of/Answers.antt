@@ -4,7 +4,6 @@ use mathlib.Core.Path.{sym, ◌∙◌}
 use native.Mathlib.Nat.{mul-le-mul}
 use native.Mathlib.Omega.{arith}
 use Rattle.line.proofs.CaptureLaws.{super_frames}
-use borrow.Author.Rules.{rules}
 use Rattle.line.proofs.one_of.Goals as goal
 
 pub overflow_mul-result : goal.overflow_mul-result

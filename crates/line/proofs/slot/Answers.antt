@@ -4,7 +4,6 @@ use Prim.Native.Nat.{ℕ, ◌+◌}
 use native.Mathlib.Omega.{arith}
 use Rattle.line.specs.Slots.{slot_of}
 use Rattle.line.proofs.SlotLaws.{delay_most}
-use borrow.Author.Rules.{rules}
 use Rattle.line.proofs.slot.Goals as goal
 
 pub overflow_add-result : goal.overflow_add-result

@@ -1,7 +1,6 @@
 -- `line::super_allowed` meets its contract. Assumes nothing.
 use Rattle.prelude.proofs.LoopLaws.{tests}
 use Rattle.line.specs.Captures.{super_allowed}
-use borrow.Author.Rules.{rules}
 use Rattle.line.proofs.super_allowed.Goals as goal
 
 pub returns-then-n-ge1 : goal.returns-then-n-ge1

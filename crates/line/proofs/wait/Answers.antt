@@ -1,7 +1,6 @@
 -- `line::wait` meets its contract. Assumes nothing.
 use mathlib.Core.Path.{refl}
 use Rattle.line.specs.Slots.{delay}
-use borrow.Author.Rules.{rules}
 use Rattle.line.proofs.wait.Goals as goal
 
 pub returns : goal.returns

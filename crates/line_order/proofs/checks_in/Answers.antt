@@ -1,7 +1,6 @@
 -- `line_order::checks_in` meets its contract. Assumes nothing.
 use mathlib.Core.Path.{ap, ◌∙◌}
 use Rattle.hamming_table.specs.Steps.{sum_by}
-use borrow.Author.Rules.{rules}
 use Rattle.line_order.proofs.checks_in.Goals as goal
 
 pub returns-else-w-capture : goal.returns-else-w-capture

@@ -1,9 +1,5 @@
 -- `line_order::deinterleave` meets its contract: a word a turn. Assumes nothing.
-use Prim.Native.Nat.{◌-◌}
-use Rattle.prelude.proofs.Lists.{Filled}
 use Rattle.prelude.proofs.LoopLaws.{loops}
-use Rattle.line_order.specs.Order.{word_by, the_line_order}
-use borrow.Author.Rules.{rules}
 use Rattle.line_order.proofs.deinterleave.Goals as goal
 
 pub loop-w-init : goal.loop-w-init

@@ -1,11 +1,8 @@
 -- `line_order::interleave` meets its contract: the words are put one after the other. Assumes nothing.
-use Prim.Native.Nat.{◌-◌, ◌≤◌}
-use mathlib.Core.Path.{◌≡◌, refl, ◌∙◌}
+use mathlib.Core.Path.{refl, ◌∙◌}
 use native.Mathlib.Omega.{arith}
-use lib.ListN.{length}
-use Rattle.prelude.proofs.LoopLaws.{Folded, folded_none, folded_more, folded_all}
-use Rattle.line_order.specs.Order.{the_line_order}
-use Rattle.line_order.specs.Steps.{replace_by, group_word}
+use Rattle.prelude.proofs.LoopLaws.{folded_none, folded_more, folded_all}
+use Rattle.line_order.specs.Steps.{replace_by}
 use Rattle.line_order.proofs.Groups.{group_put}
 use borrow.Author.Rules.{rules}
 use Rattle.line_order.proofs.interleave.Goals as goal

@@ -1,12 +1,10 @@
 -- `line_order::interleave` meets its contract: the words are put one after the other. Assumes nothing.
-use Prim.Native.Nat.{◌-◌, ◌≤◌}
-use mathlib.Core.Path.{◌≡◌, refl, ◌∙◌}
-use native.Mathlib.Omega.{arith}
+use Prim.Native.Nat.{◌≤◌}
+use mathlib.Core.Path.{◌≡◌}
 use lib.ListN.{length}
-use Rattle.prelude.proofs.LoopLaws.{Folded, folded_none, folded_more, folded_all}
+use Rattle.prelude.proofs.LoopLaws.{Folded}
 use Rattle.line_order.specs.Order.{the_line_order}
 use Rattle.line_order.specs.Steps.{replace_by, group_word}
-use Rattle.line_order.proofs.Groups.{group_put}
 use Rattle.line_order.proofs.interleave.Given as goal
 
 abbrev pub invariant-loop-w : goal.invariant-loop-w

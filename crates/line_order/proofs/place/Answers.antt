@@ -2,7 +2,6 @@
 use native.Mathlib.Omega.{arith}
 use Rattle.line_order.specs.Order.{symbol_place}
 use Rattle.line_order.proofs.OrderLaws.{place_group}
-use borrow.Author.Rules.{rules}
 use Rattle.line_order.proofs.place.Goals as goal
 
 pub overflow_add-result : goal.overflow_add-result

@@ -4,7 +4,6 @@ use mathlib.Core.Path.{◌≡◌}
 use native.Mathlib.Omega.{arith}
 use Rattle.line_order.specs.Order.{symbol_place}
 use Rattle.line_order.proofs.OrderLaws.{place_group}
-use borrow.Author.Rules.{rules}
 use Rattle.line_order.proofs.place_below.Goals as goal
 
 past : (p n : ℕ) → n ≤ p → n ≡ min p n

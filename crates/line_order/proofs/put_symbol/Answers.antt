@@ -5,7 +5,6 @@ use native.Mathlib.Omega.{arith}
 use lib.ListN.{set}
 use lib.Seq.{set_out}
 use Rattle.line_order.specs.Order.{symbol_place}
-use borrow.Author.Rules.{rules}
 use Rattle.line_order.proofs.put_symbol.Goals as goal
 
 pub returns-then-capture-at : goal.returns-then-capture-at

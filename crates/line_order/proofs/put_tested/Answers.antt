@@ -1,13 +1,11 @@
 -- `line_order::put_tested` meets its contract: a symbol a turn. Assumes nothing.
-use Prim.Native.Nat.{◌-◌, ◌≤◌}
-use mathlib.Core.Path.{◌≡◌, refl}
+use mathlib.Core.Path.{refl}
 use native.Mathlib.Omega.{arith}
-use lib.ListN.{length, length-set}
+use lib.ListN.{length-set}
 use Rattle.sizes.specs.Sizes.{word_bytes}
-use Rattle.prelude.proofs.LoopLaws.{Folded, folded_none, folded_more, folded_all}
+use Rattle.prelude.proofs.LoopLaws.{folded_none, folded_more, folded_all}
 use Rattle.line_order.specs.Order.{the_line_order}
 use Rattle.line_order.specs.Steps.{put_symbol_by, put_by}
-use borrow.Author.Rules.{rules}
 use Rattle.line_order.proofs.put_tested.Goals as goal
 
 pub loop-k-init : goal.loop-k-init

@@ -1,12 +1,11 @@
 -- `line_order::put_tested` meets its contract: a symbol a turn. Assumes nothing.
-use Prim.Native.Nat.{◌-◌, ◌≤◌}
-use mathlib.Core.Path.{◌≡◌, refl}
-use native.Mathlib.Omega.{arith}
-use lib.ListN.{length, length-set}
+use Prim.Native.Nat.{◌≤◌}
+use mathlib.Core.Path.{◌≡◌}
+use lib.ListN.{length}
 use Rattle.sizes.specs.Sizes.{word_bytes}
-use Rattle.prelude.proofs.LoopLaws.{Folded, folded_none, folded_more, folded_all}
+use Rattle.prelude.proofs.LoopLaws.{Folded}
 use Rattle.line_order.specs.Order.{the_line_order}
-use Rattle.line_order.specs.Steps.{put_symbol_by, put_by}
+use Rattle.line_order.specs.Steps.{put_symbol_by}
 use Rattle.line_order.proofs.put_tested.Given as goal
 
 abbrev pub invariant-loop-k : goal.invariant-loop-k

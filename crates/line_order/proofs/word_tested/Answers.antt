@@ -1,13 +1,11 @@
 -- `line_order::word_tested` meets its contract: a symbol a turn. Assumes nothing.
-use Prim.Native.Nat.{ℕ, ◌-◌}
+use Prim.Native.Nat.{ℕ}
 use mathlib.Core.Path.{ap, ◌∙◌}
 use lib.ListN.{get_or}
-use Rattle.sizes.specs.Sizes.{word_bytes}
-use Rattle.prelude.proofs.Lists.{Filled, filled_more}
+use Rattle.prelude.proofs.Lists.{filled_more}
 use Rattle.prelude.proofs.LoopLaws.{loops}
 use Rattle.line_order.specs.Order.{symbol_by, word_by, symbol_place, the_line_order}
 use Rattle.line_order.proofs.OrderLaws.{get_or-below}
-use borrow.Author.Rules.{rules}
 use Rattle.line_order.proofs.word_tested.Goals as goal
 
 pub loop-k-preserved : goal.loop-k-preserved

@@ -1,8 +1,6 @@
 -- `read::all_zero` meets its contract. Assumes nothing.
-use Prim.Native.Nat.{◌-◌}
-use Rattle.sizes.specs.Sizes.{word_bytes}
-use Rattle.prelude.proofs.LoopLaws.{PassedOver, passed_more, loops}
-use Rattle.read_spec.proofs.Searching.{zero_not, some_at, some_none, some_all}
+use Rattle.prelude.proofs.LoopLaws.{passed_more}
+use Rattle.read_spec.proofs.Searching.{zero_not, some_none, some_all}
 use borrow.Author.Rules.{rules}
 use Rattle.read.proofs.all_zero.Goals as goal
 

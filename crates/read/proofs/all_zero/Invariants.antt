@@ -1,8 +1,7 @@
 -- `read::all_zero` meets its contract. Assumes nothing.
-use Prim.Native.Nat.{◌-◌}
 use Rattle.sizes.specs.Sizes.{word_bytes}
-use Rattle.prelude.proofs.LoopLaws.{PassedOver, passed_more, loops}
-use Rattle.read_spec.proofs.Searching.{zero_not, some_at, some_none, some_all}
+use Rattle.prelude.proofs.LoopLaws.{PassedOver}
+use Rattle.read_spec.proofs.Searching.{some_at}
 use Rattle.read.proofs.all_zero.Given as goal
 
 abbrev pub invariant-loop-k : goal.invariant-loop-k

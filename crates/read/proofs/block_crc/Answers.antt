@@ -6,7 +6,6 @@ use Rattle.bits.specs.Bits.{bit_at}
 use Rattle.bits.proofs.Packing.{bit_of_lt}
 use Rattle.sizes.specs.Sizes.{fec_bits, info_bytes}
 use Rattle.read_spec.proofs.Pieces.{crc_packed}
-use borrow.Author.Rules.{rules}
 use Rattle.read.proofs.block_crc.Goals as goal
 
 pub returns : goal.returns

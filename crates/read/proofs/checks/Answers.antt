@@ -3,7 +3,6 @@ use mathlib.Core.Path.{◌∙◌}
 use Rattle.line_order.specs.Order.{word_in}
 use Rattle.hamming_table.proofs.Tabled.{by_checks}
 use Rattle.line_order.proofs.OrderLaws.{word_bytes_law}
-use borrow.Author.Rules.{rules}
 use Rattle.read.proofs.checks.Goals as goal
 
 pub returns : goal.returns

@@ -4,7 +4,6 @@ use Rattle.hamming.specs.Code.{checks_of}
 use Rattle.hamming.specs.Repair.{repair_of}
 use Rattle.read_spec.specs.Read.{repaired}
 use Rattle.read_spec.proofs.Pieces.{word_of, sound_word_kept}
-use borrow.Author.Rules.{rules}
 use Rattle.read.proofs.element.Goals as goal
 
 pub returns-then-c-eq0 : goal.returns-then-c-eq0

@@ -6,7 +6,6 @@ use Rattle.sizes.specs.Sizes.{super_bytes}
 use Rattle.read_spec.specs.Read.{repaired}
 use Rattle.read_spec.specs.Steps.{received_in}
 use Rattle.read_spec.proofs.Places.{frame_descrambled}
-use borrow.Author.Rules.{rules}
 use Rattle.read.proofs.frame.Goals as goal
 
 pub returns : goal.returns

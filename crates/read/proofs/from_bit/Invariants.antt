@@ -1,12 +1,8 @@
 -- `read::from_bit` meets its contract: a byte of zeros behind changes no bit. Assumes nothing.
-use Prim.Native.Nat.{◌-◌, ◌≤◌}
-use mathlib.Core.Path.{refl, ◌∙◌}
-use native.Mathlib.Omega.{arith}
+use Prim.Native.Nat.{◌≤◌}
 use lib.ListN.{get_or}
 use Rattle.sizes.specs.Sizes.{word_bytes}
-use Rattle.prelude.proofs.Lists.{Filled, filled_none, filled_more, filled_to}
-use Rattle.prelude.proofs.LoopLaws.{loops}
-use Rattle.read_spec.proofs.Pieces.{zero_byte_behind}
+use Rattle.prelude.proofs.Lists.{Filled}
 use Rattle.read.proofs.from_bit.Given as goal
 
 abbrev pub invariant-loop-k : goal.invariant-loop-k

@@ -1,6 +1,5 @@
 -- `read::is_crc_off` meets its contract. Assumes nothing.
 use Rattle.read_spec.specs.Steps.{crc_off}
-use borrow.Author.Rules.{rules}
 use Rattle.read.proofs.is_crc_off.Goals as goal
 
 pub returns : goal.returns

@@ -2,7 +2,6 @@
 use mathlib.Core.Bool.{true, false}
 use mathlib.Core.Path.{◌≡◌, sym, ◌∙◌}
 use Rattle.line.specs.Slots.{holds}
-use borrow.Author.Rules.{rules}
 use Rattle.read.proofs.is_filled.Goals as goal
 
 pub returns-then-holds_element : goal.returns-then-holds_element

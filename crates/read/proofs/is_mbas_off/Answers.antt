@@ -5,7 +5,6 @@ use Rattle.bits.proofs.Numbers.{num_front}
 use Rattle.bits.proofs.Packing.{bit_of_lt}
 use Rattle.sizes.specs.Sizes.{fec_bits, mbas_from}
 use Rattle.read_spec.specs.Steps.{mbas_off}
-use borrow.Author.Rules.{rules}
 use Rattle.read.proofs.is_mbas_off.Goals as goal
 
 pub returns : goal.returns

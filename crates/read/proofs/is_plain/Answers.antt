@@ -1,6 +1,5 @@
 -- `read::is_plain` meets its contract. Assumes nothing.
 use borrow.Author.Tests.{eq-eqb, ne_eqb}
-use borrow.Author.Rules.{rules}
 use Rattle.read.proofs.is_plain.Goals as goal
 
 pub returns-then-c-eq0 : goal.returns-then-c-eq0

@@ -1,7 +1,6 @@
 -- `read::long_from` meets its contract. Assumes nothing.
 use Rattle.bits.specs.Bits.{bit_at}
 use Rattle.read_spec.proofs.Pieces.{long_of}
-use borrow.Author.Rules.{rules}
 use Rattle.read.proofs.long_from.Goals as goal
 
 pub returns : goal.returns

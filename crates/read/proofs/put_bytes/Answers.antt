@@ -1,12 +1,10 @@
 -- `read::put_bytes` meets its contract: fourteen bytes, and one more where there is room. Assumes nothing.
-use Prim.Native.Nat.{ℕ, ◌-◌, ◌≤◌}
+use Prim.Native.Nat.{ℕ, ◌≤◌}
 use mathlib.Core.List.{List}
 use mathlib.Core.Path.{refl}
 use native.Mathlib.Omega.{arith}
 use lib.ListN.{length, get_or, set}
 use Rattle.prelude.proofs.Lists.{Filled, filled_none, filled_more, filled_to, filled_all}
-use Rattle.prelude.proofs.LoopLaws.{loops}
-use borrow.Author.Rules.{rules}
 use Rattle.read.proofs.put_bytes.Goals as goal
 
 -- the two behind the loop's twelve

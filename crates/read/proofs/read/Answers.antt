@@ -1,6 +1,5 @@
 -- `read::read` meets its contract. Assumes nothing.
 use Rattle.read_spec.proofs.Judging.{read_accepted, read_late, read_refused}
-use borrow.Author.Rules.{rules}
 use Rattle.read.proofs.read.Goals as goal
 
 pub read_accepted-requires : goal.read_accepted-requires

@@ -1,17 +1,12 @@
 -- `read::received` meets its contract: before element l the bytes that begin in the elements before it are there. Assumes nothing.
-use Prim.Native.Nat.{ℕ, ◌%◌, ◌+◌, ◌-◌, ◌*◌, ◌≤◌}
-use mathlib.Core.List.{List}
-use mathlib.Core.Path.{refl, ap, ap₂, ◌≡◌, ◌∙◌}
-use native.Mathlib.Omega.{arith}
-use lib.ListN.{take, drop, length, get_or}
-use Rattle.prelude.specs.Lists.{from_index}
-use Rattle.bits.specs.Bits.{bit_at, byte_of, pack}
-use Rattle.prelude.proofs.Lists.{Filled, filled_none, filled_all, part_long}
-use Rattle.sizes.specs.Sizes.{super_bytes, super_elements, word_bytes}
+use Prim.Native.Nat.{◌+◌, ◌*◌, ◌≤◌}
+use mathlib.Core.Path.{◌≡◌}
+use Rattle.bits.specs.Bits.{byte_of}
+use Rattle.prelude.proofs.Lists.{Filled}
+use Rattle.sizes.specs.Sizes.{super_elements}
 use Rattle.line.specs.Slots.{slot_of}
 use Rattle.read_spec.specs.Read.{repaired}
-use Rattle.read_spec.specs.Steps.{followed, received_in, first_whole_byte}
-use Rattle.read_spec.proofs.Places.{element_byte, bytes_filled}
+use Rattle.read_spec.specs.Steps.{received_in, first_whole_byte}
 use Rattle.read.proofs.received.Given as goal
 
 abbrev pub invariant-loop-l : goal.invariant-loop-l

@@ -1,7 +1,6 @@
 -- `read::repair_word` meets its contract. Assumes nothing.
 use mathlib.Core.Path.{◌∙◌}
 use Rattle.hamming_table.proofs.Tabled.{by_known}
-use borrow.Author.Rules.{rules}
 use Rattle.read.proofs.repair_word.Goals as goal
 
 pub returns : goal.returns

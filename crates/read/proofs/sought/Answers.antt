@@ -3,7 +3,6 @@ use Prim.Native.Nat.{◌+◌}
 use mathlib.Core.Bool.{Bool, cond}
 use mathlib.Core.Path.{sym, ap, ◌∙◌}
 use Rattle.read_spec.proofs.Searching.{sought_old, sought_new}
-use borrow.Author.Rules.{rules}
 use Rattle.read.proofs.sought.Goals as goal
 
 pub returns-then-x-k : goal.returns-then-x-k

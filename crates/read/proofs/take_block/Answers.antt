@@ -1,6 +1,5 @@
 -- `read::take_block` meets its contract. Assumes nothing.
 use Rattle.read_spec.specs.Steps.{block_taken}
-use borrow.Author.Rules.{rules}
 use Rattle.read.proofs.take_block.Goals as goal
 
 pub returns : goal.returns

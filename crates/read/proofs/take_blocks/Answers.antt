@@ -1,8 +1,5 @@
 -- `read::take_blocks` meets its contract. Assumes nothing.
-use Prim.Native.Nat.{◌-◌, ◌≤◌}
-use Rattle.prelude.proofs.LoopLaws.{Folded, loops}
-use Rattle.read_spec.specs.Steps.{block_taken}
-use borrow.Author.Rules.{rules}
+use Rattle.prelude.proofs.LoopLaws.{loops}
 use Rattle.read.proofs.take_blocks.Goals as goal
 
 pub loop-b-init : goal.loop-b-init

@@ -1,6 +1,6 @@
 -- `read::take_blocks` meets its contract. Assumes nothing.
-use Prim.Native.Nat.{◌-◌, ◌≤◌}
-use Rattle.prelude.proofs.LoopLaws.{Folded, loops}
+use Prim.Native.Nat.{◌≤◌}
+use Rattle.prelude.proofs.LoopLaws.{Folded}
 use Rattle.read_spec.specs.Steps.{block_taken}
 use Rattle.read.proofs.take_blocks.Given as goal
 

@@ -2,7 +2,6 @@
 use mathlib.Core.Path.{ap, ◌∙◌}
 use Rattle.read_spec.specs.Steps.{sought_of}
 use Rattle.read_spec.proofs.Blocks.{frame_more}
-use borrow.Author.Rules.{rules}
 use Rattle.read.proofs.take_frame.Goals as goal
 
 pub returns : goal.returns

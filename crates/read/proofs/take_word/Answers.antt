@@ -13,7 +13,6 @@ use Rattle.line.specs.Slots.{holds}
 use Rattle.line_order.specs.Order.{word_in}
 use Rattle.read_spec.specs.Steps.{sought_of}
 use Rattle.read_spec.proofs.Searching.{seen_le, word_more, beyond_is, filled_is, seen_as, plain_word}
-use borrow.Author.Rules.{rules}
 use Rattle.read.proofs.take_word.Goals as goal
 
 pub returns-then-is_plain : goal.returns-then-is_plain

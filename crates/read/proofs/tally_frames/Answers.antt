@@ -1,9 +1,6 @@
 -- `read::tally_frames` meets its contract. Assumes nothing.
-use Prim.Native.Nat.{◌-◌, ◌≤◌}
-use mathlib.Core.Path.{◌≡◌, ap, ◌∙◌}
+use mathlib.Core.Path.{ap, ◌∙◌}
 use native.Mathlib.Omega.{arith}
-use lib.ListN.{length}
-use Rattle.sizes.specs.Sizes.{super_bytes}
 use Rattle.read_spec.specs.Steps.{frames_to}
 use Rattle.read_spec.proofs.Blocks.{frames_none}
 use borrow.Author.Rules.{rules}

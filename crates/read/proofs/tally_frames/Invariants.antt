@@ -1,11 +1,9 @@
 -- `read::tally_frames` meets its contract. Assumes nothing.
-use Prim.Native.Nat.{◌-◌, ◌≤◌}
-use mathlib.Core.Path.{◌≡◌, ap, ◌∙◌}
-use native.Mathlib.Omega.{arith}
+use Prim.Native.Nat.{◌≤◌}
+use mathlib.Core.Path.{◌≡◌}
 use lib.ListN.{length}
 use Rattle.sizes.specs.Sizes.{super_bytes}
 use Rattle.read_spec.specs.Steps.{frames_to}
-use Rattle.read_spec.proofs.Blocks.{frames_none}
 use Rattle.read.proofs.tally_frames.Given as goal
 
 abbrev pub invariant-loop-f : goal.invariant-loop-f

@@ -1,11 +1,8 @@
 -- `read::tally_words` meets its contract. Assumes nothing.
-use Prim.Native.Nat.{◌+◌, ◌-◌, ◌*◌, ◌≤◌}
-use mathlib.Core.Path.{◌≡◌, ◌∙◌, ap}
+use mathlib.Core.Path.{◌∙◌, ap}
 use native.Mathlib.Omega.{arith}
-use Rattle.sizes.specs.Sizes.{longest_wait, super_elements}
 use Rattle.read_spec.specs.Steps.{words_to}
 use Rattle.read_spec.proofs.Searching.{words_none}
-use borrow.Author.Rules.{rules}
 use Rattle.read.proofs.tally_words.Goals as goal
 
 pub loop-w-init : goal.loop-w-init

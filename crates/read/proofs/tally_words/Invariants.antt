@@ -1,10 +1,8 @@
 -- `read::tally_words` meets its contract. Assumes nothing.
-use Prim.Native.Nat.{◌+◌, ◌-◌, ◌*◌, ◌≤◌}
-use mathlib.Core.Path.{◌≡◌, ◌∙◌, ap}
-use native.Mathlib.Omega.{arith}
+use Prim.Native.Nat.{◌+◌, ◌*◌, ◌≤◌}
+use mathlib.Core.Path.{◌≡◌}
 use Rattle.sizes.specs.Sizes.{longest_wait, super_elements}
 use Rattle.read_spec.specs.Steps.{words_to}
-use Rattle.read_spec.proofs.Searching.{words_none}
 use Rattle.read.proofs.tally_words.Given as goal
 
 abbrev pub invariant-loop-w : goal.invariant-loop-w

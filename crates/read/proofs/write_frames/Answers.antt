@@ -1,15 +1,10 @@
 -- `read::write_frames` meets its contract: a super frame a turn. Assumes nothing.
-use Rattle.read_spec.proofs.Places.{info_whole, parity_whole, bytes_filled, info_all, parity_all}
-use Prim.Native.Nat.{◌+◌, ◌-◌, ◌*◌, ◌≤◌}
-use mathlib.Core.Path.{◌≡◌}
+use Rattle.read_spec.proofs.Places.{info_whole, parity_whole, bytes_filled}
+use Prim.Native.Nat.{◌+◌, ◌-◌, ◌*◌}
 use native.Mathlib.Omega.{arith}
-use lib.ListN.{length}
-use Rattle.bits.specs.Bits.{byte_of}
-use Rattle.prelude.proofs.Lists.{Filled, filled_none, filled_all}
-use Rattle.sizes.specs.Sizes.{super_bytes, super_info_bytes, super_parity_bytes}
+use Rattle.prelude.proofs.Lists.{filled_none, filled_all}
+use Rattle.sizes.specs.Sizes.{super_info_bytes, super_parity_bytes}
 use Rattle.line.specs.Frames.{info_of, parity_of}
-use Rattle.line.specs.Words.{fec_in}
-use Rattle.read_spec.specs.Read.{repaired}
 use borrow.Author.Rules.{rules}
 use Rattle.read.proofs.write_frames.Goals as goal
 

@@ -1,13 +1,11 @@
 -- `read::write_frames` meets its contract: a super frame a turn. Assumes nothing.
-use Rattle.read_spec.proofs.Places.{info_whole, parity_whole, bytes_filled, info_all, parity_all}
-use Prim.Native.Nat.{◌+◌, ◌-◌, ◌*◌, ◌≤◌}
+use Rattle.read_spec.proofs.Places.{info_all, parity_all}
+use Prim.Native.Nat.{◌*◌, ◌≤◌}
 use mathlib.Core.Path.{◌≡◌}
-use native.Mathlib.Omega.{arith}
 use lib.ListN.{length}
 use Rattle.bits.specs.Bits.{byte_of}
-use Rattle.prelude.proofs.Lists.{Filled, filled_none, filled_all}
+use Rattle.prelude.proofs.Lists.{Filled}
 use Rattle.sizes.specs.Sizes.{super_bytes, super_info_bytes, super_parity_bytes}
-use Rattle.line.specs.Frames.{info_of, parity_of}
 use Rattle.line.specs.Words.{fec_in}
 use Rattle.read_spec.specs.Read.{repaired}
 use Rattle.read.proofs.write_frames.Given as goal

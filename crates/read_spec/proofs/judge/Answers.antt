@@ -9,7 +9,6 @@ use Rattle.sizes.specs.Sizes.{most_frames}
 use Rattle.line.proofs.CaptureLaws.{frames_in}
 use Rattle.read_spec.specs.Read.{read_early_rows}
 use Rattle.read_spec.proofs.judge.Goals.{Else-not-numbers_allowed}
-use borrow.Author.Rules.{rules}
 use Rattle.read_spec.proofs.judge.Goals as goal
 
 few : (c : Else-not-numbers_allowed) → c.args.n ≤ most_frames

@@ -1,6 +1,5 @@
 -- `read_spec::verdict` meets its contract: the tests in turn. Assumes nothing.
 use Rattle.read_spec.specs.Steps.{verdict_of}
-use borrow.Author.Rules.{rules}
 use Rattle.read_spec.proofs.verdict.Goals as goal
 
 pub returns : goal.returns

@@ -1,13 +1,10 @@
 -- `begin` meets its contract: before byte k the register holds the bits from 8·k on. Assumes nothing.
-use Prim.Native.Nat.{◌-◌, ◌*◌, ◌^◌, ◌≤◌, ◌<◌}
-use mathlib.Core.Path.{◌≡◌, sym}
-use native.Mathlib.Omega.{arith}
+use Prim.Native.Nat.{◌*◌, ◌^◌, ◌≤◌, ◌<◌}
+use mathlib.Core.Path.{◌≡◌}
 use Rattle.bits.specs.Bits.{byte_of}
-use Rattle.prelude.proofs.Lists.{Filled, filled_none, filled_more, filled_to}
-use Rattle.prelude.proofs.LoopLaws.{loops}
+use Rattle.prelude.proofs.Lists.{Filled}
 use Rattle.scrambler.specs.Scrambler.{o}
 use Rattle.scrambler.specs.Steps.{register}
-use Rattle.scrambler.proofs.Stepping.{starts, upper_half, byte_on}
 use Rattle.scrambler.proofs.begin.Given as goal
 
 abbrev pub invariant-loop-k : goal.invariant-loop-k

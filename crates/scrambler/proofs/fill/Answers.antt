@@ -2,7 +2,6 @@
 use mathlib.Core.Path.{refl, ◌∙◌}
 use native.Mathlib.Omega.{arith}
 use Rattle.scrambler.proofs.Strides.{stride_1, stride_4, stride_16, stride_64, opened_all, opened_begun, sequence_begun_all}
-use borrow.Author.Rules.{rules}
 use Rattle.scrambler.proofs.fill.Goals as goal
 
 pub go_on-requires : goal.go_on-requires

@@ -1,14 +1,12 @@
 -- `go_on` meets its contract: what is filled reaches far enough back for the sum of four. Assumes nothing.
-use Prim.Native.Nat.{ℕ, ◌-◌, ◌*◌, ◌≤◌, ◌<◌}
+use Prim.Native.Nat.{ℕ, ◌*◌, ◌≤◌, ◌<◌}
 use mathlib.Core.Path.{◌≡◌, refl}
 use native.Mathlib.Omega.{arith}
 use lib.ListN.{get_or}
 use Rattle.bits.specs.Bits.{byte_of}
-use Rattle.prelude.proofs.Lists.{Filled, filled_more, filled_at, filled_to}
-use Rattle.prelude.proofs.LoopLaws.{loops}
+use Rattle.prelude.proofs.Lists.{filled_more, filled_at, filled_to}
 use Rattle.scrambler.specs.Scrambler.{o}
 use Rattle.scrambler.proofs.Strides.{next_sum, opened_begun}
-use borrow.Author.Rules.{rules}
 use Rattle.scrambler.proofs.go_on.Goals as goal
 
 pub overflow_step-k : goal.overflow_step-k

@@ -1,13 +1,8 @@
 -- `go_on` meets its contract: what is filled reaches far enough back for the sum of four. Assumes nothing.
-use Prim.Native.Nat.{ℕ, ◌-◌, ◌*◌, ◌≤◌, ◌<◌}
-use mathlib.Core.Path.{◌≡◌, refl}
-use native.Mathlib.Omega.{arith}
-use lib.ListN.{get_or}
+use Prim.Native.Nat.{◌*◌, ◌≤◌}
 use Rattle.bits.specs.Bits.{byte_of}
-use Rattle.prelude.proofs.Lists.{Filled, filled_more, filled_at, filled_to}
-use Rattle.prelude.proofs.LoopLaws.{loops}
+use Rattle.prelude.proofs.Lists.{Filled}
 use Rattle.scrambler.specs.Scrambler.{o}
-use Rattle.scrambler.proofs.Strides.{next_sum, opened_begun}
 use Rattle.scrambler.proofs.go_on.Given as goal
 
 abbrev pub invariant-loop-k : goal.invariant-loop-k

@@ -1,7 +1,6 @@
 -- `next` meets its contract: one step of the register is one step of the sequence. Assumes nothing.
 use native.Mathlib.Omega.{arith}
 use Rattle.scrambler.proofs.Stepping.{next_is}
-use borrow.Author.Rules.{rules}
 use Rattle.scrambler.proofs.next.Goals as goal
 
 pub returns : goal.returns

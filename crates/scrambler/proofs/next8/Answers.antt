@@ -1,6 +1,5 @@
 -- `next8` meets its contract: eight steps, one after the other. Assumes nothing.
 use Rattle.scrambler.proofs.Stepping.{steps_join}
-use borrow.Author.Rules.{rules}
 use Rattle.scrambler.proofs.next8.Goals as goal
 
 pub returns : goal.returns

@@ -1,14 +1,8 @@
 -- `scrambling::add_inside` meets its contract: a byte a turn. Assumes nothing.
-use Prim.Native.Nat.{◌-◌}
-use mathlib.Core.Path.{refl}
-use native.Mathlib.Omega.{arith}
-use lib.ListN.{length}
 use Rattle.prelude.specs.Lists.{from_index}
 use Rattle.bits.specs.Bits.{bit_at}
-use Rattle.prelude.proofs.Lists.{Filled, filled_more, filled_here}
-use Rattle.prelude.proofs.LoopLaws.{loops}
+use Rattle.prelude.proofs.Lists.{Filled}
 use Rattle.scrambling.specs.Steps.{added_byte}
-use Rattle.scrambling.proofs.Adding.{byte_summed}
 use Rattle.scrambling.proofs.add_inside.Given as goal
 
 abbrev pub invariant-loop-k : goal.invariant-loop-k

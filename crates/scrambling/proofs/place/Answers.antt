@@ -1,6 +1,5 @@
 -- `scrambling::place` meets its contract. Assumes nothing.
 use mathlib.Core.Path.{refl}
-use borrow.Author.Rules.{rules}
 use Rattle.scrambling.proofs.place.Goals as goal
 
 pub returns : goal.returns

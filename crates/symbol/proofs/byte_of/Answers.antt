@@ -21,12 +21,12 @@ overflow_add-result-2 c = omega (arith, pair_small _ _ c.pair.ensures, pair_smal
 
 pub overflow_add-result-3 : goal.overflow_add-result-3
 overflow_add-result-3 c = omega (
-      arith,
-      pair_small _ _ c.pair.ensures,
-      pair_small _ _ c.pair-2.ensures,
-      pair_small _ _ c.pair-3.ensures,
-      pair_small _ _ c.pair-4.ensures,
-    )
+  arith,
+  pair_small _ _ c.pair.ensures,
+  pair_small _ _ c.pair-2.ensures,
+  pair_small _ _ c.pair-3.ensures,
+  pair_small _ _ c.pair-4.ensures,
+)
 
 pub returns : goal.returns
 returns c = byte_is c.args.s c.pair.result c.pair-2.result c.pair-3.result c.pair-4.result

@@ -3,7 +3,6 @@ use Prim.Native.Nat.{◌/◌}
 use mathlib.Core.Path.{sym, ap₂}
 use Rattle.symbol.specs.Levels.{level_of}
 use Rattle.prelude.proofs.Common.{odd_of}
-use borrow.Author.Rules.{rules}
 use Rattle.symbol.proofs.level.Goals as goal
 
 pub returns-then-p-eq0-2 : goal.returns-then-p-eq0-2

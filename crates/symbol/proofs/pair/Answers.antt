@@ -3,7 +3,6 @@ use mathlib.Core.Bool.{true, false}
 use lib.IntN.{pos, negsuc}
 use Rattle.symbol.specs.Levels.{pair_of}
 use Rattle.symbol.proofs.Amplitudes.{test_of}
-use borrow.Author.Rules.{rules}
 use Rattle.symbol.proofs.pair.Goals as goal
 
 pub returns-then-v-ltminus2 : goal.returns-then-v-ltminus2
@@ -17,15 +16,15 @@ returns-then-v-lt0 c = rw (test_of c.args.v (negsuc 1) false c.ranges.v c.if-v-l
 pub returns-then-v-lt2 : goal.returns-then-v-lt2
 unfolding pair_of
 returns-then-v-lt2 c = rw (
-      test_of c.args.v (negsuc 1) false c.ranges.v c.if-v-ltminus2.false,
-      test_of c.args.v (pos 0) false c.ranges.v c.if-v-lt0.false,
-      test_of c.args.v (pos 2) true c.ranges.v c.if-v-lt2.true,
-    )
+  test_of c.args.v (negsuc 1) false c.ranges.v c.if-v-ltminus2.false,
+  test_of c.args.v (pos 0) false c.ranges.v c.if-v-lt0.false,
+  test_of c.args.v (pos 2) true c.ranges.v c.if-v-lt2.true,
+)
 
 pub returns-else-v-lt2 : goal.returns-else-v-lt2
 unfolding pair_of
 returns-else-v-lt2 c = rw (
-      test_of c.args.v (negsuc 1) false c.ranges.v c.if-v-ltminus2.false,
-      test_of c.args.v (pos 0) false c.ranges.v c.if-v-lt0.false,
-      test_of c.args.v (pos 2) false c.ranges.v c.if-v-lt2.false,
-    )
+  test_of c.args.v (negsuc 1) false c.ranges.v c.if-v-ltminus2.false,
+  test_of c.args.v (pos 0) false c.ranges.v c.if-v-lt0.false,
+  test_of c.args.v (pos 2) false c.ranges.v c.if-v-lt2.false,
+)

@@ -1,6 +1,5 @@
 -- `symbol::symbol_of` meets its contract: four levels make the symbol (`symbol_is`). Assumes nothing.
 use Rattle.symbol.proofs.Amplitudes.{symbol_is}
-use borrow.Author.Rules.{rules}
 use Rattle.symbol.proofs.symbol_of.Goals as goal
 
 pub returns : goal.returns

@@ -1,10 +1,7 @@
 -- `test_data::digest` meets its contract: the bytes are folded in. Assumes nothing.
-use Prim.Native.Nat.{◌-◌, ◌≤◌}
-use lib.ListN.{length}
 use native.Mathlib.Omega.{arith}
-use Rattle.prelude.proofs.LoopLaws.{Folded, folded_more, loops}
-use Rattle.test_data.specs.Digest.{basis, taken_at, digest_of}
-use borrow.Author.Rules.{rules}
+use Rattle.prelude.proofs.LoopLaws.{folded_more, loops}
+use Rattle.test_data.specs.Digest.{taken_at, digest_of}
 use Rattle.test_data.proofs.digest.Goals as goal
 
 pub loop-k-preserved : goal.loop-k-preserved

@@ -1,9 +1,6 @@
 -- `test_data::digest_numbers` meets its contract: the numbers are folded in. Assumes nothing.
-use Prim.Native.Nat.{◌-◌, ◌≤◌}
-use lib.ListN.{length}
-use Rattle.prelude.proofs.LoopLaws.{Folded, loops}
-use Rattle.test_data.specs.Digest.{basis, taken_number_at, digest_of_numbers}
-use borrow.Author.Rules.{rules}
+use Rattle.prelude.proofs.LoopLaws.{loops}
+use Rattle.test_data.specs.Digest.{taken_number_at, digest_of_numbers}
 use Rattle.test_data.proofs.digest_numbers.Goals as goal
 
 pub loop-k-preserved : goal.loop-k-preserved

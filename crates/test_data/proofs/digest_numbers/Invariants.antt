@@ -1,8 +1,8 @@
 -- `test_data::digest_numbers` meets its contract: the numbers are folded in. Assumes nothing.
-use Prim.Native.Nat.{◌-◌, ◌≤◌}
+use Prim.Native.Nat.{◌≤◌}
 use lib.ListN.{length}
-use Rattle.prelude.proofs.LoopLaws.{Folded, loops}
-use Rattle.test_data.specs.Digest.{basis, taken_number_at, digest_of_numbers}
+use Rattle.prelude.proofs.LoopLaws.{Folded}
+use Rattle.test_data.specs.Digest.{basis, taken_number_at}
 use Rattle.test_data.proofs.digest_numbers.Given as goal
 
 abbrev pub invariant-loop-k : goal.invariant-loop-k

@@ -1,12 +1,8 @@
 -- `test_data::fill_numbers` meets its contract: after k turns k elements are filled and the generator has gone k steps. Assumes nothing.
-use Prim.Native.Nat.{◌-◌}
-use lib.ListN.{length}
 use native.Mathlib.Omega.{arith}
-use Rattle.prelude.proofs.Lists.{Filled, filled_none, filled_more}
+use Rattle.prelude.proofs.Lists.{filled_none, filled_more}
 use Rattle.prelude.proofs.LoopLaws.{loops}
-use Rattle.test_data.specs.Generator.{numbers_from}
-use Rattle.test_data.proofs.Steps.{At, at_start, at_step, at_end, gives_number}
-use borrow.Author.Rules.{rules}
+use Rattle.test_data.proofs.Steps.{at_start, at_step, at_end, gives_number}
 use Rattle.test_data.proofs.fill_numbers.Goals as goal
 
 pub loop-k-init : goal.loop-k-init

@@ -1,6 +1,5 @@
 -- `test_data::output` meets its contract. Assumes nothing.
 use Rattle.test_data.specs.Generator.{number}
-use borrow.Author.Rules.{rules}
 use Rattle.test_data.proofs.output.Goals as goal
 
 pub returns : goal.returns

@@ -1,7 +1,6 @@
 -- `test_data::step` meets its contract. Assumes nothing.
 use mathlib.Core.Path.{refl}
 use Rattle.test_data.specs.Generator.{right12, left25, right27, next}
-use borrow.Author.Rules.{rules}
 use Rattle.test_data.proofs.step.Goals as goal
 
 pub returns : goal.returns

@@ -1,6 +1,5 @@
 -- `test_data::take` meets its contract. Assumes nothing.
 use Rattle.test_data.specs.Digest.{digest_with}
-use borrow.Author.Rules.{rules}
 use Rattle.test_data.proofs.take.Goals as goal
 
 pub returns : goal.returns

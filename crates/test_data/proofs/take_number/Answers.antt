@@ -1,8 +1,6 @@
 -- `test_data::take_number` meets its contract: the eight bytes are folded in. Assumes nothing.
-use Prim.Native.Nat.{◌-◌, ◌≤◌}
-use Rattle.prelude.proofs.LoopLaws.{Folded, loops}
+use Rattle.prelude.proofs.LoopLaws.{loops}
 use Rattle.test_data.specs.Digest.{taken_part, taken_number}
-use borrow.Author.Rules.{rules}
 use Rattle.test_data.proofs.take_number.Goals as goal
 
 pub loop-j-preserved : goal.loop-j-preserved

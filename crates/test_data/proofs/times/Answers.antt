@@ -2,7 +2,6 @@
 use native.Mathlib.Omega.{arith}
 use Prim.Native.Nat.{◌*◌, ◌%◌, ◌^◌, ◌<◌}
 use Rattle.test_data.proofs.Halves.{fits, halves_product}
-use borrow.Author.Rules.{rules}
 use Rattle.test_data.proofs.times.Goals as goal
 
 pub overflow_mul-low : goal.overflow_mul-low

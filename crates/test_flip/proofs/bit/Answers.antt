@@ -6,7 +6,6 @@ use lib.ListN.{replicate}
 use lib.Seq.{set_out}
 use Rattle.sizes.specs.Sizes.{word_bytes}
 use Rattle.test_flip.specs.Flipped.{bit_alone}
-use borrow.Author.Rules.{rules}
 use Rattle.test_flip.proofs.bit.Goals as goal
 
 pub returns-then-i-lt-WORD_BITS : goal.returns-then-i-lt-WORD_BITS

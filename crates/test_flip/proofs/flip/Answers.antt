@@ -7,7 +7,6 @@ use Rattle.sizes.specs.Sizes.{word_bytes}
 use Rattle.line_order.specs.Order.{word_in}
 use Rattle.test_flip.specs.Flipped.{flipped_word}
 use Rattle.line_order.specs.Steps.{put_word}
-use borrow.Author.Rules.{rules}
 use Rattle.test_flip.proofs.flip.Goals as goal
 
 flips_word : {x s out : List ℕ} (cap : List ℕ) (w : ℕ) (v : List ℕ) → x ≡ word_in cap w → s ≡ pack word_bytes (added (bit_at x) (bit_at v))

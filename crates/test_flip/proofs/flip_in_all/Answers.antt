@@ -1,11 +1,10 @@
 -- `test_flip::flip_in_all` meets its contract: the words are taken one after the other. Assumes nothing.
-use Prim.Native.Nat.{ℕ, ◌+◌, ◌-◌, ◌*◌, ◌/◌, ◌%◌, ◌≤◌}
+use Prim.Native.Nat.{ℕ, ◌+◌, ◌*◌, ◌/◌, ◌%◌}
 use mathlib.Core.Path.{◌≡◌, refl, sym, ap, ◌∙◌}
 use mathlib.Core.List.{List}
-use lib.ListN.{length}
 use native.Mathlib.Nat.{mul-add-mod_self_left}
 use native.Mathlib.Omega.{arith}
-use Rattle.prelude.proofs.LoopLaws.{Folded, folded_none, folded_more, folded_all}
+use Rattle.prelude.proofs.LoopLaws.{folded_none, folded_more, folded_all}
 use Rattle.test_flip.specs.Flipped.{bit_alone, flipped_word, flipped_once, flipped_in_all}
 use borrow.Author.Rules.{rules}
 use Rattle.test_flip.proofs.flip_in_all.Goals as goal
@@ -26,10 +25,10 @@ loop-w-init c = (folded_none, refl, omega arith)
 
 pub loop-w-preserved : goal.loop-w-preserved
 loop-w-preserved c = let i = c.loop-w in (
-      folded_more i.invariant.0 (once i.w _ c.bit.ensures c.flip.ensures),
-      search rules,
-      omega arith,
-    )
+  folded_more i.invariant.0 (once i.w _ c.bit.ensures c.flip.ensures),
+  search rules,
+  omega arith,
+)
 
 pub shape_of-capture : goal.shape_of-capture
 shape_of-capture c = c.loop-w.invariant.1

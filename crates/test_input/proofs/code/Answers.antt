@@ -1,6 +1,5 @@
 -- `test_input::code` meets its contract: the room is filled, and coded. Assumes nothing.
 
-use borrow.Author.Rules.{rules}
 use Rattle.test_input.proofs.code.Goals as goal
 
 pub returns : goal.returns

@@ -1,7 +1,6 @@
 -- `test_input::code_room` meets its contract: a room that is too short, and one that is coded. Assumes nothing.
 use mathlib.Core.Path.{refl}
 use Rattle.test_input.proofs.Rooms.{room_short, room_coded}
-use borrow.Author.Rules.{rules}
 use Rattle.test_input.proofs.code_room.Goals as goal
 
 pub returns-then-room-b : goal.returns-then-room-b

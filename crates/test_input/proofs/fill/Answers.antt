@@ -1,6 +1,5 @@
 -- `test_input::fill` meets its contract: what the generator fills. Assumes nothing.
 
-use borrow.Author.Rules.{rules}
 use Rattle.test_input.proofs.fill.Goals as goal
 
 pub returns : goal.returns

@@ -1,6 +1,5 @@
 -- `zr_argument::number_of` meets its contract: each return by the tests that led there. Assumes nothing.
 use Rattle.zr_argument.proofs.Digits.{answers}
-use borrow.Author.Rules.{rules}
 use Rattle.zr_argument.proofs.number_of.Goals as goal
 
 pub returns-then-s-eq0 : goal.returns-then-s-eq0

@@ -1,7 +1,7 @@
 -- `zr_argument::value` meets its contract: a byte a turn. Assumes nothing.
-use Prim.Native.Nat.{suc, ◌-◌, ◌≤◌}
+use Prim.Native.Nat.{suc, ◌≤◌}
 use lib.ListN.{length}
-use Rattle.prelude.proofs.LoopLaws.{Folded, loops}
+use Rattle.prelude.proofs.LoopLaws.{Folded}
 use Rattle.decimal.specs.Steps.{next_at}
 use Rattle.zr_argument.specs.Numbers.{most}
 use Rattle.zr_argument.proofs.value.Given as goal

@@ -1,7 +1,6 @@
 -- `archive::field::fixed_byte` meets its contract: the text is the sixteen bytes. Assumes nothing.
 use mathlib.Core.Path.{refl}
 use Rattle.archive_spec.specs.File.{fixed}
-use borrow.Author.Rules.{rules}
 use Rattle.archive.proofs.field.fixed_byte.Goals as goal
 
 pub returns : goal.returns

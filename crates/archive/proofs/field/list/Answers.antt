@@ -1,11 +1,8 @@
 -- `archive::field::list` meets its contract: an entry a turn. Assumes nothing.
 use native.Mathlib.Omega.{arith}
 use mathlib.Core.Path.{◌∙◌}
-use Prim.Native.Nat.{◌-◌, ◌≤◌}
-use Rattle.prelude.proofs.Lists.{Filled, filled_more, filled_to}
+use Rattle.prelude.proofs.Lists.{filled_more, filled_to}
 use Rattle.prelude.proofs.LoopLaws.{loops}
-use Rattle.archive_spec.specs.Steps.{field_in}
-use borrow.Author.Rules.{rules}
 use Rattle.archive.proofs.field.list.Goals as goal
 
 pub loop-e-preserved : goal.loop-e-preserved

@@ -1,9 +1,6 @@
 -- `archive::field::list` meets its contract: an entry a turn. Assumes nothing.
-use native.Mathlib.Omega.{arith}
-use mathlib.Core.Path.{◌∙◌}
-use Prim.Native.Nat.{◌-◌, ◌≤◌}
-use Rattle.prelude.proofs.Lists.{Filled, filled_more, filled_to}
-use Rattle.prelude.proofs.LoopLaws.{loops}
+use Prim.Native.Nat.{◌≤◌}
+use Rattle.prelude.proofs.Lists.{Filled}
 use Rattle.archive_spec.specs.Steps.{field_in}
 use Rattle.archive.proofs.field.list.Given as goal
 

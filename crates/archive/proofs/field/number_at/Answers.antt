@@ -1,10 +1,8 @@
 -- `archive::field::number_at` meets its contract: a byte a turn. Assumes nothing.
-use Prim.Native.Nat.{◌-◌}
 use mathlib.Core.Path.{◌∙◌}
 use native.Mathlib.Omega.{arith}
-use Rattle.archive_spec.proofs.Fields.{NumberTo, number_none, number_next, number_all}
+use Rattle.archive_spec.proofs.Fields.{number_none, number_next, number_all}
 use Rattle.prelude.proofs.LoopLaws.{loops}
-use borrow.Author.Rules.{rules}
 use Rattle.archive.proofs.field.number_at.Goals as goal
 
 pub loop-j-preserved : goal.loop-j-preserved

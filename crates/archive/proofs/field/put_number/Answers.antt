@@ -1,11 +1,7 @@
 -- `archive::field::put_number` meets its contract: a byte a turn. Assumes nothing.
-use Prim.Native.Nat.{◌-◌}
 use native.Mathlib.Omega.{arith}
-use Rattle.prelude.proofs.LoopLaws.{loops}
-use Rattle.archive_spec.specs.File.{bytes_of}
 use Rattle.archive_spec.proofs.Fields.{bytes_long}
-use Rattle.archive_spec.proofs.Placing.{Putting, putting_none, putting_more, putting_all, byte_in}
-use borrow.Author.Rules.{rules}
+use Rattle.archive_spec.proofs.Placing.{putting_none, putting_more, putting_all, byte_in}
 use Rattle.archive.proofs.field.put_number.Goals as goal
 
 pub loop-j-init : goal.loop-j-init

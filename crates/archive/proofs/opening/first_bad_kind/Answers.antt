@@ -1,8 +1,5 @@
 -- `archive::opening::first_bad_kind` meets its contract: an entry a turn. Assumes nothing.
-use Prim.Native.Nat.{◌-◌}
-use Rattle.prelude.proofs.LoopLaws.{PassedOver, found_here, found_more, loops}
-use Rattle.archive_spec.specs.Read.{bad_kind}
-use borrow.Author.Rules.{rules}
+use Rattle.prelude.proofs.LoopLaws.{found_here, loops}
 use Rattle.archive.proofs.opening.first_bad_kind.Goals as goal
 
 pub returns-then-is_bad_kind : goal.returns-then-is_bad_kind

@@ -1,6 +1,6 @@
 -- `archive::opening::first_bad_kind` meets its contract: an entry a turn. Assumes nothing.
 use Prim.Native.Nat.{◌-◌}
-use Rattle.prelude.proofs.LoopLaws.{PassedOver, found_here, found_more, loops}
+use Rattle.prelude.proofs.LoopLaws.{PassedOver}
 use Rattle.archive_spec.specs.Read.{bad_kind}
 use Rattle.archive.proofs.opening.first_bad_kind.Given as goal
 

@@ -1,10 +1,6 @@
 -- `archive::opening::first_off_rule` meets its contract: an entry a turn. Assumes nothing.
 use native.Mathlib.Omega.{arith}
-use Prim.Native.Nat.{◌-◌}
-use Rattle.prelude.proofs.LoopLaws.{loops}
-use Rattle.archive_spec.specs.File.{length_in}
-use Rattle.archive_spec.specs.Read.{off_rule}
-use Rattle.archive_spec.proofs.Starts.{Walked, walked_none, walked_end, off_here, off_more, rule_small}
+use Rattle.archive_spec.proofs.Starts.{walked_none, walked_end, off_here, off_more, rule_small}
 use borrow.Author.Rules.{rules}
 use Rattle.archive.proofs.opening.first_off_rule.Goals as goal
 

@@ -1,9 +1,7 @@
 -- `archive::opening::is_no_archive` meets its contract: a byte a turn. Assumes nothing.
-use Prim.Native.Nat.{◌-◌}
-use Rattle.prelude.proofs.LoopLaws.{PassedOver, loops}
-use Rattle.archive_spec.specs.Read.{fixed_differs, is_no_archive}
-use Rattle.archive_spec.proofs.Judging.{byte_differs, byte_agrees, some_differs, none_differs}
-use borrow.Author.Rules.{rules}
+use Rattle.prelude.proofs.LoopLaws.{loops}
+use Rattle.archive_spec.specs.Read.{is_no_archive}
+use Rattle.archive_spec.proofs.Judging.{byte_differs, some_differs, none_differs}
 use Rattle.archive.proofs.opening.is_no_archive.Goals as goal
 
 pub returns-then-size-lt16 : goal.returns-then-size-lt16

@@ -1,6 +1,5 @@
 -- `archive::opening::is_off_rule` meets its contract: its tests in turn. Assumes nothing.
 use Rattle.archive_spec.proofs.Starts.{rule_cut, rule_elsewhere, rule_midst, rule_last}
-use borrow.Author.Rules.{rules}
 use Rattle.archive.proofs.opening.is_off_rule.Goals as goal
 
 pub returns-then-size-entry_from : goal.returns-then-size-entry_from

@@ -1,6 +1,5 @@
 -- `archive::opening::judge` meets its contract: the lengths, then the file. Assumes nothing.
 use Rattle.archive_spec.proofs.Judging.{open_refused, open_late}
-use borrow.Author.Rules.{rules}
 use Rattle.archive.proofs.opening.judge.Goals as goal
 
 pub returns-then-r-ne0 : goal.returns-then-r-ne0

@@ -1,7 +1,6 @@
 -- `archive::opening::judge_entries` meets its contract: its tests in turn. Assumes nothing.
 use native.Mathlib.Omega.{arith}
 use Rattle.archive_spec.proofs.Judging.{entries_by, few_found}
-use borrow.Author.Rules.{rules}
 use Rattle.archive.proofs.opening.judge_entries.Goals as goal
 
 pub overflow_add-off : goal.overflow_add-off

@@ -1,6 +1,5 @@
 -- `archive::opening::judge_file` meets its contract: its tests in turn. Assumes nothing.
 use Rattle.archive_spec.proofs.Judging.{no_archive, bad_count_law, entries_decide, count_known}
-use borrow.Author.Rules.{rules}
 use Rattle.archive.proofs.opening.judge_file.Goals as goal
 
 pub judge_entries-requires : goal.judge_entries-requires

@@ -2,7 +2,6 @@
 use Rattle.answer.specs.Steps.{in_turn, row_then, faults_then}
 use Rattle.answer.proofs.Turns.{by_turns, turns}
 use Rattle.archive_spec.specs.Read.{open_early_rows}
-use borrow.Author.Rules.{rules}
 use Rattle.archive.proofs.opening.judge_lengths.Goals as goal
 
 pub returns : goal.returns

@@ -1,9 +1,6 @@
 -- `archive::writing::first_outside` meets its contract: an entry a turn. Assumes nothing.
 use native.Mathlib.Omega.{arith}
-use Prim.Native.Nat.{◌-◌}
-use Rattle.prelude.proofs.LoopLaws.{loops}
-use Rattle.archive_spec.specs.Write.{nth, entry_outside}
-use Rattle.archive_spec.proofs.Starts.{Walked, walked_none, walked_end, outside_here, outside_more, inside_of}
+use Rattle.archive_spec.proofs.Starts.{walked_none, walked_end, outside_here, outside_more, inside_of}
 use borrow.Author.Rules.{rules}
 use Rattle.archive.proofs.writing.first_outside.Goals as goal
 

@@ -2,7 +2,6 @@
 use Rattle.prelude.proofs.Common.{or_first, or_next}
 use Rattle.prelude.proofs.LoopLaws.{tests}
 use Rattle.archive_spec.specs.Steps.{outside_at}
-use borrow.Author.Rules.{rules}
 use Rattle.archive.proofs.writing.is_outside.Goals as goal
 
 pub returns-then-kind_outside : goal.returns-then-kind_outside

@@ -3,7 +3,6 @@ use native.Mathlib.Omega.{arith}
 use Rattle.answer.proofs.Turns.{turns}
 use Rattle.archive_spec.specs.Write.{write_answer}
 use Rattle.archive_spec.proofs.Judging.{write_counted, write_late}
-use borrow.Author.Rules.{rules}
 use Rattle.archive.proofs.writing.judge.Goals as goal
 
 pub returns-then-outside : goal.returns-then-outside

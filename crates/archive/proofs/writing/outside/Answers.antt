@@ -3,7 +3,6 @@ use native.Mathlib.Omega.{arith}
 use Rattle.prelude.proofs.Common.{or_first}
 use Rattle.archive_spec.specs.Write.{write_outside}
 use Rattle.archive_spec.proofs.Judging.{counted_by, outside_by}
-use borrow.Author.Rules.{rules}
 use Rattle.archive.proofs.writing.outside.Goals as goal
 
 pub returns-then-count_outside : goal.returns-then-count_outside

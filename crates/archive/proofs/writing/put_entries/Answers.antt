@@ -1,8 +1,6 @@
 -- `archive::writing::put_entries` meets its contract: an entry a turn. Assumes nothing.
 use native.Mathlib.Omega.{arith}
-use Prim.Native.Nat.{◌-◌}
-use Rattle.archive_spec.specs.Steps.{HeadUpTo}
-use Rattle.archive_spec.proofs.Placing.{entry_inside, head_grown, head_done}
+use Rattle.archive_spec.proofs.Placing.{entry_inside, head_grown}
 use borrow.Author.Rules.{rules}
 use Rattle.archive.proofs.writing.put_entries.Goals as goal
 

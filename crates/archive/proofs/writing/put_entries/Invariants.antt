@@ -1,8 +1,5 @@
 -- `archive::writing::put_entries` meets its contract: an entry a turn. Assumes nothing.
-use native.Mathlib.Omega.{arith}
-use Prim.Native.Nat.{◌-◌}
 use Rattle.archive_spec.specs.Steps.{HeadUpTo}
-use Rattle.archive_spec.proofs.Placing.{entry_inside, head_grown, head_done}
 use Rattle.archive.proofs.writing.put_entries.Given as goal
 
 abbrev pub invariant-loop-e : goal.invariant-loop-e

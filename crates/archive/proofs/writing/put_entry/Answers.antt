@@ -1,7 +1,5 @@
 -- `archive::writing::put_entry` meets its contract: three numbers. Assumes nothing.
-use Rattle.archive_spec.proofs.Starts.{kind_small}
 use Rattle.archive_spec.proofs.Placing.{entry_placed}
-use borrow.Author.Rules.{rules}
 use Rattle.archive.proofs.writing.put_entry.Goals as goal
 
 pub returns : goal.returns

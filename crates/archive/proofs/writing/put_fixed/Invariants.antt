@@ -1,11 +1,8 @@
 -- `archive::writing::put_fixed` meets its contract: a byte a turn. Assumes nothing.
-use Prim.Native.Nat.{◌-◌, ◌≤◌}
-use native.Mathlib.Omega.{arith}
+use Prim.Native.Nat.{◌≤◌}
 use lib.ListN.{get_or}
-use Rattle.prelude.proofs.Lists.{Filled, filled_more}
-use Rattle.prelude.proofs.LoopLaws.{loops}
+use Rattle.prelude.proofs.Lists.{Filled}
 use Rattle.archive_spec.specs.File.{fixed_bytes, fixed}
-use Rattle.archive_spec.proofs.Placing.{fixed_placed}
 use Rattle.archive.proofs.writing.put_fixed.Given as goal
 
 abbrev pub invariant-loop-k : goal.invariant-loop-k

@@ -1,6 +1,5 @@
 -- `archive::writing::put_head` meets its contract: what stands before the entries, and then they. Assumes nothing.
 use Rattle.archive_spec.proofs.Placing.{head_begun, same_head}
-use borrow.Author.Rules.{rules}
 use Rattle.archive.proofs.writing.put_head.Goals as goal
 
 pub put_entries-requires : goal.put_entries-requires
