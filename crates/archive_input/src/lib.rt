@@ -8,7 +8,7 @@ use archive::MOST_HEAD_BYTES;
 use std::io;
 use std::io::{Read, Seek, SeekFrom};
 
-// As `io::BufReader` would, but on the stack and never grown: for a loop that moves much data.
+// So many bytes are asked for at once: where much is read, smaller reads would take most of the time.
 const SPACE_BYTES: usize = 65536;
 
 // Lists the table of what is read to its end, since it may be no file.
