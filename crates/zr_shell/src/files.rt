@@ -1,5 +1,5 @@
 // The files and numbers that the arguments name. What goes wrong with one is said here, once.
-ghost use Rattle.std.specs.Prelude.{◌≤◌, length, IfOk};
+ghost use Rattle.std.specs.Prelude.{◌≡◌, ◌≤◌, length, IfOk, OnErr};
 
 use crate::said;
 use std::env::{Env, FillError};
@@ -75,7 +75,8 @@ pub fn load<W: Write>(
     i: usize,
     into: &mut [u8],
 ) -> io::Result<Loaded>
-    ensures { IfOk result (λ r. r.bytes ≤ length into.new) }
+    ensures ok { IfOk result (λ r. r.bytes ≤ length into.new) }
+    ensures err { OnErr result (length into.new ≡ length into.old) }
 {
     let mut path = [0u8; ARGUMENT_BYTES];
     let k = argument(rt, i, &mut path);
@@ -111,7 +112,8 @@ fn load_from<W: Write>(
     path: &[u8],
     into: &mut [u8],
 ) -> io::Result<Loaded>
-    ensures { IfOk result (λ r. r.bytes ≤ length into.new) }
+    ensures ok { IfOk result (λ r. r.bytes ≤ length into.new) }
+    ensures err { OnErr result (length into.new ≡ length into.old) }
 {
     let Some(mut file) = open(out, rt, path)? else {
         return Ok(Loaded {
@@ -142,7 +144,8 @@ pub fn unread<W: Write>(
 
 // A read that moves nothing ends the file.
 fn read_all<R: Read>(from: &mut R, into: &mut [u8]) -> io::Result<usize>
-    ensures { IfOk result (λ n. n ≤ length into.new) }
+    ensures ok { IfOk result (λ n. n ≤ length into.new) }
+    ensures err { OnErr result (length into.new ≡ length into.old) }
 {
     let mut done = 0;
     while done < into.len() {
