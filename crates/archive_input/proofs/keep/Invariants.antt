@@ -1,3 +1,4 @@
+-- `archive_input::keep` ends: each turn takes a byte of the part. Assumes nothing.
 use Rattle.std.proofs.Common.{length, ◌-◌, ◌≤◌}
 use Rattle.archive_input.proofs.keep.Given as goal
 

@@ -1,3 +1,4 @@
+-- `archive_print::print` ends: a table has at most 32 entries. Assumes nothing.
 use Rattle.std.proofs.Common.{◌-◌}
 use Rattle.archive_print.proofs.print.Given as goal
 

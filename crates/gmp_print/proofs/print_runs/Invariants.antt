@@ -1,3 +1,4 @@
+-- `gmp_print::print_runs` ends: each turn goes on behind a run. Assumes nothing.
 use Rattle.std.proofs.Common.{◌-◌, ◌≤◌}
 use Rattle.gmp_print.proofs.print_runs.Given as goal
 

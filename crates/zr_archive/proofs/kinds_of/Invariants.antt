@@ -1,3 +1,4 @@
+-- `zr_archive::kinds_of`: the list keeps its length. Assumes nothing.
 use Rattle.std.proofs.Common.{◌≡◌, length}
 use Rattle.zr_archive.proofs.kinds_of.Given as goal
 

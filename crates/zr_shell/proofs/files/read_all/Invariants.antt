@@ -1,3 +1,4 @@
+-- `zr_shell::files::read_all` ends: each turn leaves less room. Assumes nothing.
 use Rattle.std.proofs.Common.{length, ◌-◌, ◌≤◌}
 use Rattle.zr_shell.proofs.files.read_all.Given as goal
 

@@ -1,3 +1,4 @@
+-- `zr_shell::said::words` ends: the list has 145 entries. Assumes nothing.
 use Rattle.std.proofs.Common.{◌-◌}
 use Rattle.zr_shell.proofs.said.words.Given as goal
 
