@@ -121,11 +121,11 @@ module _ (size : ℕ) (s : List ℕ) (k o l : ℕ) (bytes : Bytes s) (g : ReadSh
     start_of_law : (e : ℕ) → e ≤ n → start_of n (nth lengths) e ≡ start_of n (length_in s) e
     start_of_law e h = start_ext n (nth lengths) (length_in s) e (λ i m. length_of i (omega arith))
 
-    head_of : (e : ℕ) → e ≤ n → head_to n (nth kinds) (nth lengths) e ≡ head_to n (kind_in s) (length_in s) e
-    head_of zero h = head_none n (nth kinds) (nth lengths) ∙ sym (head_none n (kind_in s) (length_in s))
-    head_of (suc e) h =
+    head_of_law : (e : ℕ) → e ≤ n → head_to n (nth kinds) (nth lengths) e ≡ head_to n (kind_in s) (length_in s) e
+    head_of_law zero h = head_none n (nth kinds) (nth lengths) ∙ sym (head_none n (kind_in s) (length_in s))
+    head_of_law (suc e) h =
         head_more n (nth kinds) (nth lengths) e
-        ∙ rw (head_of e (omega arith), kind_of e (omega arith), length_of e (omega arith), start_of_law e (omega arith)) (sym (head_more n (kind_in s) (length_in s) e))
+        ∙ rw (head_of_law e (omega arith), kind_of e (omega arith), length_of e (omega arith), start_of_law e (omega arith)) (sym (head_more n (kind_in s) (length_in s) e))
 
     entry_good : (e : ℕ) → e < n → entry_outside n (nth kinds) (nth lengths) e ≡ false
     unfolding entry_outside
@@ -173,7 +173,7 @@ read_write size s kinds offsets lengths bytes z =
       head =
           λ head h.
           written_done _ _ head (ap (λ (a : Answer). a.number) (w (length head) h))
-          ∙ head_of size s (length kinds) (length offsets) (length lengths) bytes g _ _ p q n (omega arith)
+          ∙ head_of_law size s (length kinds) (length offsets) (length lengths) bytes g _ _ p q n (omega arith)
           ∙ head_again size s (length kinds) (length offsets) (length lengths) bytes g n (omega arith);
       offsets =
           λ e h.

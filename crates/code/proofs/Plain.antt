@@ -82,8 +82,8 @@ module _ (m0 : ℕ) (info par : List ℕ) (t : ℕ) where
 agree_packed : (r : List ℕ) (g h : ℕ → ℕ) → Bits g → r ≡ pack word_bytes g → Agree g h → Agree (bit_at r) h
 agree_packed r g h b e a i l = ap (λ (s : List ℕ). bit_at s i) e ∙ bit_of-packs 8 word_bytes g i b (omega arith) ∙ a i l
 
-pub from_bits : (s : List ℕ) (a : ℕ) → Bits (from_index (bit_at s) a)
-from_bits s a i = bit_of_lt 8 s (a + i)
+pub from_bits_law : (s : List ℕ) (a : ℕ) → Bits (from_index (bit_at s) a)
+from_bits_law s a i = bit_of_lt 8 s (a + i)
 
 module _ (m0 : ℕ) (info par r : List ℕ) (e : ℕ) (no_pad : e % super_elements < fec_elements * fec_blocks) where
   abbrev block : ℕ
@@ -97,14 +97,14 @@ module _ (m0 : ℕ) (info par r : List ℕ) (e : ℕ) (no_pad : e % super_elemen
 
   pub plain_info : local < info_elements → r ≡ pack word_bytes (from_index (bit_at info) (info_bits * block + element_bits * local)) → Agree (bit_at r) (plain_bit F e)
   plain_info h p =
-      agree_packed r (from_index (bit_at info) (info_bits * block + element_bits * local)) (plain_bit F e) (from_bits info (info_bits * block + element_bits * local)) p
+      agree_packed r (from_index (bit_at info) (info_bits * block + element_bits * local)) (plain_bit F e) (from_bits_law info (info_bits * block + element_bits * local)) p
       (λ i l. sym (plain_fec F e i no_pad l ∙ held_info m0 info par block local i h l))
 
   pub plain_tail : (crc mbas : ℕ) → local ≡ info_elements → crc ≡ block_crc info block → mbas ≡ mbas_of m0 block
       → r ≡ pack word_bytes (tail_bit crc mbas (from_index (bit_at par) (parity_bits * block))) → Agree (bit_at r) (plain_bit F e)
   plain_tail crc mbas h pc pm p =
       agree_packed r (tail_bit crc mbas (from_index (bit_at par) (parity_bits * block))) (plain_bit F e)
-      (tail_bits_law crc mbas (from_index (bit_at par) (parity_bits * block)) (from_bits par (parity_bits * block))) p
+      (tail_bits_law crc mbas (from_index (bit_at par) (parity_bits * block)) (from_bits_law par (parity_bits * block))) p
       (λ i l. let q : element_bits * local + i ≡ info_bits + i = omega arith in
       rw (pc, pm) (sym (plain_fec F e i no_pad l ∙ ap (F block) q ∙ held_tail m0 info par block i l)))
 
@@ -112,7 +112,7 @@ module _ (m0 : ℕ) (info par r : List ℕ) (e : ℕ) (no_pad : e % super_elemen
       → Agree (bit_at r) (plain_bit F e)
   plain_parity h p =
       agree_packed r (from_index (bit_at par) (parity_bits * block + (element_bits * (local - info_elements) - guard_bits))) (plain_bit F e)
-      (from_bits par (parity_bits * block + (element_bits * (local - info_elements) - guard_bits))) p
+      (from_bits_law par (parity_bits * block + (element_bits * (local - info_elements) - guard_bits))) p
       (λ i l. sym (plain_fec F e i no_pad l ∙ held_parity m0 info par block local i h))
 
 -- ---- the CRC of a block's part of the information

@@ -34,9 +34,9 @@ unfolding window_bit
 window_lt c f g i = piece_lt g (is_data c (f + i / group_bits)) (group_bits * data_from c f (i / group_bits) + i % group_bits)
 
 -- bit r of data group q, at its place in the window
-at_place : (c f n : ℕ) (g : List ℕ) (q r m : ℕ) → r < group_bits → Stands c f n q m → window_bit c f g (group_bits * m + r) ≡ bit_at g (group_bits * q + r)
+at_place_law : (c f n : ℕ) (g : List ℕ) (q r m : ℕ) → r < group_bits → Stands c f n q m → window_bit c f g (group_bits * m + r) ≡ bit_at g (group_bits * q + r)
 unfolding window_bit
-at_place c f n g q r m h s =
+at_place_law c f n g q r m h s =
     let d : (group_bits * m + r) / group_bits ≡ m = omega arith in
     let e : (group_bits * m + r) % group_bits ≡ r = omega arith in
     rw (d, e, s.is_data_law, s.rank)
@@ -93,7 +93,7 @@ module _ (c f n : ℕ) (g : List ℕ) (w : Window c f n) (spare : groups_spare_s
           let m = group_place c f n q in
           let l : group_bits * m + r < 8 * window_bytes n = omega (arith, s.inside, window_bytes_law n w.even) in
           let k : group_bits * q + r ≡ i = omega arith in
-          bit_of-packs 8 (window_bytes n) (window_bit c f g) (group_bits * m + r) (window_lt c f g) l ∙ at_place c f n g q r m (omega arith) s ∙ ap (bit_at g) k
+          bit_of-packs 8 (window_bytes n) (window_bit c f g) (group_bits * m + r) (window_lt c f g) l ∙ at_place_law c f n g q r m (omega arith) s ∙ ap (bit_at g) k
       by false e =
           let d = data_from c f n in
           let l : group_bits * d ≤ i = from_quotient d i (ltb-false (i / group_bits) d e) in

@@ -24,7 +24,7 @@ pub fn map_answer(c: u64, f: u64, n: u64, groups: &[u8], window: usize) -> Answe
         answer::refuse_length(
             2,
             window as u64,
-            window_bytes_law(n),
+            window_bytes(n),
             answer::refuse_if(
                 spare_set(d, groups),
                 answer::SPARE_BIT,
@@ -46,7 +46,7 @@ pub fn unmap_answer(c: u64, f: u64, n: u64, window: usize, groups: usize) -> Ans
     answer::refuse_length(
         1,
         window as u64,
-        window_bytes_law(n),
+        window_bytes(n),
         answer::refuse_length(2, groups as u64, group_bytes(d), answer::granted(d)),
     )
 }
@@ -60,7 +60,7 @@ fn group_bytes(d: u64) -> u64
 }
 
 // The bytes of n places.
-fn window_bytes_law(n: u64) -> u64
+fn window_bytes(n: u64) -> u64
     requires { n ≤ places }
     ensures { result ≡ window_bytes n }
 {

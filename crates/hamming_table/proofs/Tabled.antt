@@ -13,7 +13,7 @@ use Rattle.hamming_matrix.specs.Columns.{position_of}
 use Rattle.hamming_matrix.specs.Sums.{tail_of}
 use Rattle.hamming.specs.Code.{checks_of, element_sum, joined, joined_word, coded, code_word}
 use Rattle.hamming.specs.Repair.{repair_at, repair_of}
-use Rattle.hamming_table.specs.Steps.{byte_entry, byte_table, entry_at, sum_by, word_by_tables}
+use Rattle.hamming_table.specs.Steps.{byte_entry, byte_table, entry_at, sum_by_tables, word_by_tables}
 use Rattle.hamming_matrix.proofs.Sums.{sum_same}
 use Rattle.hamming_matrix.proofs.Matrix.{tail_lt}
 use Rattle.hamming.proofs.Words.{checks_lt, element_lt, joined_lt, pack_bytes}
@@ -25,8 +25,8 @@ use Rattle.hamming_table.proofs.Doubling.{entry_of_law}
 byte_entry_law : (k x : ℕ) → k < word_bytes → x < 256 → get_or byte_table (256 * k + x) 0 ≡ byte_sum k x
 byte_entry_law k x h l = get_d_tabulate 0 (256 * word_bytes) byte_entry (256 * k + x) (omega arith) ∙ entry_of_law k x l
 
-pub by_checks : (t w : List ℕ) → t ≡ byte_table → Bytes w → sum_by t w ≡ checks_of w
-unfolding sum_by entry_at byte_of_sum
+pub by_checks : (t w : List ℕ) → t ≡ byte_table → Bytes w → sum_by_tables t w ≡ checks_of w
+unfolding sum_by_tables entry_at byte_of_sum
 by_checks t w e b =
     sum_same (entry_at t w) (byte_of_sum w) word_bytes each_byte ∙ checks_bytes w
   where
@@ -38,7 +38,7 @@ unfolding word_by_tables coded
 by_word t tails e p q =
     let f = bit_at e in
     let b = bit_of_lt 8 e in
-    let c : sum_by t (joined_word f 0) ≡ element_sum f = by_checks t (joined_word f 0) p (pack_bytes (joined f 0) (joined_lt f 0 b)) ∙ checks_alone f b in
+    let c : sum_by_tables t (joined_word f 0) ≡ element_sum f = by_checks t (joined_word f 0) p (pack_bytes (joined f 0) (joined_lt f 0 b)) ∙ checks_alone f b in
     let h = element_lt f b in
     ap (joined_word f)
     (ap₂ (λ (l : List ℕ) (x : ℕ). get_or l x 0 % check_values) q c

@@ -20,12 +20,12 @@ byte_table = tabulate (256 * word_bytes) byte_entry
 unfoldable pub entry_at : List ℕ → List ℕ → ℕ → ℕ
 entry_at t w k = get_or t (256 * k + get_or w k 0) 0
 
-unfoldable pub sum_by : List ℕ → List ℕ → ℕ
-sum_by t w = sum_to (entry_at t w) word_bytes
+unfoldable pub sum_by_tables : List ℕ → List ℕ → ℕ
+sum_by_tables t w = sum_to (entry_at t w) word_bytes
 
 -- the word of an element by two tables
 unfoldable pub word_by_tables : List ℕ → List ℕ → List ℕ → List ℕ
-word_by_tables t tails e = joined_word (bit_at e) (get_or tails (sum_by t (joined_word (bit_at e) 0)) 0 % 2 ^ check_bits)
+word_by_tables t tails e = joined_word (bit_at e) (get_or tails (sum_by_tables t (joined_word (bit_at e) 0)) 0 % 2 ^ check_bits)
 
 -- ---- how the table of bytes is made: an entry with one bit more is the entry without it, and the column of that bit
 

@@ -5,7 +5,7 @@ ghost use Rattle.std.specs.Prelude.{◌≡◌, ◌+◌, ◌*◌, ◌≤◌, ◌<
 ghost use Rattle.sizes.specs.Sizes.{word_bytes};
 ghost use Rattle.hamming_matrix.specs.Columns.{columns};
 ghost use Rattle.hamming.specs.Repair.{repair_at};
-ghost use Rattle.hamming_table.specs.Steps.{EntriesBegun, Doubles, byte_table, sum_by, word_by_tables};
+ghost use Rattle.hamming_table.specs.Steps.{EntriesBegun, Doubles, byte_table, sum_by_tables, word_by_tables};
 
 use hamming::Repaired;
 
@@ -54,7 +54,7 @@ fn entry_at(t: &[u16], c: u16) -> u16
 
 // The sum of a table's entries for the bytes of a word: with the table of `byte_table`, the nine checks.
 pub fn checks_by(t: &[u16; 4096], w: [u8; 16]) -> u16
-    ensures { result ≡ sum_by t.now w }
+    ensures { result ≡ sum_by_tables t.now w }
 {
     let mut sum = 0u16;
     for k in 0..sizes::WORD_BYTES {

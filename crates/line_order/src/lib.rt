@@ -4,7 +4,7 @@
 
 ghost use Rattle.std.specs.Prelude.{◌≡◌, ◌/◌, ◌^◌, ◌<◌, min, length, set};
 ghost use Rattle.sizes.specs.Sizes.{word_bytes, group_words, group_size};
-ghost use Rattle.hamming_table.specs.Steps.{sum_by};
+ghost use Rattle.hamming_table.specs.Steps.{sum_by_tables};
 ghost use Rattle.line_order.specs.Order.{symbol_place, word_in};
 ghost use Rattle.line_order.specs.Steps.{put_word, laid_group, taken_group};
 
@@ -82,7 +82,7 @@ pub fn word_in(capture: &[u8], w: usize) -> [u8; 16]
 // The checks of word w where the capture has the whole of its group.
 fn checks_inside(t: &[u16; 4096], capture: &[u8], w: usize) -> u16
     requires { w / group_words < length capture.now / group_size }
-    ensures { result ≡ sum_by t.now (word_in capture.now w) }
+    ensures { result ≡ sum_by_tables t.now (word_in capture.now w) }
 {
     let group = sizes::GROUP_BYTES * (w / sizes::GROUP_WORDS);
     let j = w % sizes::GROUP_WORDS;
@@ -95,7 +95,7 @@ fn checks_inside(t: &[u16; 4096], capture: &[u8], w: usize) -> u16
 
 // The nine checks of word w of a capture, by the lent table of `hamming_table::byte_table`: a word that passes need not be put together.
 pub fn checks_in(t: &[u16; 4096], capture: &[u8], w: usize) -> u16
-    ensures { result ≡ sum_by t.now (word_in capture.now w) }
+    ensures { result ≡ sum_by_tables t.now (word_in capture.now w) }
 {
     if w / sizes::GROUP_WORDS < capture.len() / sizes::GROUP_BYTES {
         checks_inside(t, capture, w)

@@ -6,7 +6,7 @@ use Rattle.prelude.specs.Lists.{from_index}
 use Rattle.bits.specs.Bits.{num, bit_at}
 use Rattle.code.proofs.Tails.{byte_crc, byte_mid, byte_high, byte_start}
 use Rattle.code.specs.Steps.{tail_bit}
-use Rattle.code.proofs.Plain.{from_bits}
+use Rattle.code.proofs.Plain.{from_bits_law}
 use Rattle.code.proofs.tail_byte.Goals as goal
 
 pub returns-then-k-lt4 : goal.returns-then-k-lt4
@@ -16,7 +16,7 @@ pub returns-then-k-eq4 : goal.returns-then-k-eq4
 returns-then-k-eq4 c = let a = c.args in
     let s = a.parity.now in
     let e : 8 * a.k ≡ 32 = omega arith in
-    byte_mid a.crc a.mbas (from_index (bit_at s) a.at) c.byte_from.result (omega arith) (from_bits s a.at) (c.byte_from.ensures
+    byte_mid a.crc a.mbas (from_index (bit_at s) a.at) c.byte_from.result (omega arith) (from_bits_law s a.at) (c.byte_from.ensures
     ∙ byte_start s a.at)
     ∙ ap (num 8 (tail_bit a.crc a.mbas (from_index (bit_at s) a.at))) (sym e)
 

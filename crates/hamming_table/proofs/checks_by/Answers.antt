@@ -1,5 +1,5 @@
 -- `hamming_table::checks_by` meets its contract: the invariant adds up the entries of the bytes that are in. Assumes nothing.
-use Rattle.hamming_table.specs.Steps.{entry_at, sum_by}
+use Rattle.hamming_table.specs.Steps.{entry_at, sum_by_tables}
 use Rattle.hamming_matrix.proofs.Sums.{summed_none, summed_more, summed_all}
 use Rattle.hamming_table.proofs.checks_by.Goals as goal
 
@@ -11,5 +11,5 @@ unfolding entry_at
 loop-k-preserved c = summed_more c.loop-k.invariant c.loop-k-test.true (rw c.wide.ensures.same)
 
 pub returns : goal.returns
-unfolding sum_by
+unfolding sum_by_tables
 returns c = summed_all c.loop-k.invariant c.loop-k-test.false

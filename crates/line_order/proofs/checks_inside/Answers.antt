@@ -4,7 +4,7 @@ use mathlib.Core.Path.{◌≡◌, sym, ap, ◌∙◌}
 use native.Mathlib.Omega.{arith}
 use lib.ListN.{get_or}
 use Rattle.sizes.specs.Sizes.{group_words, group_size}
-use Rattle.hamming_table.specs.Steps.{entry_at, sum_by}
+use Rattle.hamming_table.specs.Steps.{entry_at, sum_by_tables}
 use Rattle.hamming_matrix.proofs.Sums.{summed_none, summed_more, summed_all}
 use Rattle.line_order.specs.Order.{symbol_place}
 use Rattle.line_order.proofs.OrderLaws.{word-symbol, place_group}
@@ -32,5 +32,5 @@ loop-k-preserved c = let a = c.args in
     (c.wide.ensures.same ∙ ap (λ (x : ℕ). get_or cap x 0) e ∙ sym (word-symbol cap a.w k (omega arith))))
 
 pub returns : goal.returns
-unfolding sum_by
+unfolding sum_by_tables
 returns c = summed_all c.loop-k.invariant c.loop-k-test.false
