@@ -3,15 +3,14 @@
 
 use answer::Answer;
 use std::io;
-use std::io::{BufWriter, Write};
+use std::io::Write;
 use zr_shell::said;
 
 // Nothing is printed before the end is known. Where reading fails, standard error says why and standard output stays empty: a file that was
 // not seen to its end is neither listed nor refused.
 fn main(rt: HostRuntime) -> io::Result<()> {
-    let mut out = BufWriter::new(rt.alloc(), io::writer(&rt))?;
-    list(&mut out, &rt)?;
-    out.flush()
+    let mut out = io::writer(&rt);
+    list(&mut out, &rt)
 }
 
 fn list<W: Write>(out: &mut W, rt: &HostRuntime) -> io::Result<()> {

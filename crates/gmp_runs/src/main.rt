@@ -4,7 +4,7 @@
 use answer::Answer;
 use gmp_count::Partial;
 use std::io;
-use std::io::{BufWriter, Read, Write};
+use std::io::{Read, Write};
 
 // A part of the input was read: what is kept of the first line, and whether there may be more of it.
 #[derive(Clone, Copy)]
@@ -48,7 +48,6 @@ fn print<W: Write>(out: &mut W, answer: Answer) -> io::Result<()> {
 
 fn main(rt: HostRuntime) -> io::Result<()> {
     let answer: Answer = gmp_count::so_far(read_first(&mut rt.stdin())?);
-    let mut out = BufWriter::new(rt.alloc(), io::writer(&rt))?;
-    print(&mut out, answer)?;
-    out.flush()
+    let mut out = io::writer(&rt);
+    print(&mut out, answer)
 }

@@ -7,11 +7,10 @@ mod files;
 mod reads;
 mod writes;
 
-use std::io::{self, BufWriter, Write};
+use std::io;
 
 fn main(rt: HostRuntime) -> io::Result<()> {
-    let mut out = BufWriter::new(rt.alloc(), io::writer(&rt))?;
+    let mut out = io::writer(&rt);
     writes::all(&mut out)?;
-    reads::all(&mut out)?;
-    out.flush()
+    reads::all(&mut out)
 }

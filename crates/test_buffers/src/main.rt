@@ -8,7 +8,7 @@ mod captures;
 mod lent;
 mod windows;
 
-use std::io::{self, BufWriter, Write};
+use std::io::{self, Write};
 
 #[derive(Clone, Copy)]
 enum Call {
@@ -52,7 +52,7 @@ fn lines<W: Write>(
 
 // Where a number is outside its set every digit of the pattern is 1.
 fn main(rt: HostRuntime) -> io::Result<()> {
-    let mut out = BufWriter::new(rt.alloc(), io::writer(&rt))?;
+    let mut out = io::writer(&rt);
     lines(&mut out, Call::Code, 1, 0, 27)?;
     line(&mut out, Call::Code, 0, 0, 13)?;
     lines(&mut out, Call::Read, 1, 0, 27)?;
@@ -69,6 +69,5 @@ fn main(rt: HostRuntime) -> io::Result<()> {
     line(&mut out, Call::Unmap, 10221, 0, 4)?;
     lines(&mut out, Call::Write, 2, 0, 27)?;
     line(&mut out, Call::Write, 0, 0, 13)?;
-    lines(&mut out, Call::Open, 0, 0, 81)?;
-    out.flush()
+    lines(&mut out, Call::Open, 0, 0, 81)
 }

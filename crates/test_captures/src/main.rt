@@ -7,13 +7,12 @@ mod frames;
 mod parts;
 mod readings;
 
-use std::io::{self, BufWriter, Write};
+use std::io;
 
 fn main(rt: HostRuntime) -> io::Result<()> {
-    let mut out = BufWriter::new(rt.alloc(), io::writer(&rt))?;
+    let mut out = io::writer(&rt);
     coded::cases(&mut out)?;
     readings::cases(&mut out)?;
     parts::cases(&mut out)?;
-    frames::cases(&mut out)?;
-    out.flush()
+    frames::cases(&mut out)
 }

@@ -8,14 +8,13 @@ mod places;
 mod published;
 mod starred;
 
-use std::io::{self, BufWriter, Write};
+use std::io;
 
 fn main(rt: HostRuntime) -> io::Result<()> {
-    let mut out = BufWriter::new(rt.alloc(), io::writer(&rt))?;
+    let mut out = io::writer(&rt);
     starred::cases(&mut out)?;
     places::cases(&mut out)?;
     published::vectors(&mut out)?;
     captures::vectors(&mut out)?;
-    mapped::vectors(&mut out)?;
-    out.flush()
+    mapped::vectors(&mut out)
 }

@@ -6,7 +6,7 @@ ghost use Rattle.std.specs.Prelude.{◌≡◌, length};
 ghost use Rattle.buffer_sizes.specs.Lengths.{large_bytes};
 
 use answer::Answer;
-use std::io::{self, BufWriter, Write};
+use std::io::{self, Write};
 use test_data::Generator;
 
 // So many bits are put at the most, and none where it is one more.
@@ -499,13 +499,12 @@ fn refusals<W: Write>(out: &mut W) -> io::Result<()> {
 }
 
 fn main(rt: HostRuntime) -> io::Result<()> {
-    let mut out = BufWriter::new(rt.alloc(), io::writer(&rt))?;
+    let mut out = io::writer(&rt);
     list_before(&mut out)?;
     grants(&mut out)?;
     refusals(&mut out)?;
     beside(&mut out, 0)?;
     beside(&mut out, 170)?;
     never_coded(&mut out, 6)?;
-    never_coded(&mut out, 4759)?;
-    out.flush()
+    never_coded(&mut out, 4759)
 }

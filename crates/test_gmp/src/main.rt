@@ -6,11 +6,10 @@ mod cases;
 mod counts;
 mod windows;
 
-use std::io::{self, BufWriter, Write};
+use std::io;
 
 fn main(rt: HostRuntime) -> io::Result<()> {
-    let mut out = BufWriter::new(rt.alloc(), io::writer(&rt))?;
+    let mut out = io::writer(&rt);
     counts::cases(&mut out)?;
-    windows::cases(&mut out)?;
-    out.flush()
+    windows::cases(&mut out)
 }

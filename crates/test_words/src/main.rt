@@ -5,7 +5,7 @@
 ghost use Rattle.std.specs.Prelude.{◌<◌};
 
 use hamming::{Found, Repaired};
-use std::io::{self, BufWriter, Write};
+use std::io::{self, Write};
 
 // The element whose first n bytes are x and whose others are y.
 fn element(x: u8, y: u8, n: usize) -> [u8; 16] {
@@ -162,7 +162,7 @@ fn print_rows<W: Write>(out: &mut W) -> io::Result<()> {
 }
 
 fn main(rt: HostRuntime) -> io::Result<()> {
-    let mut out = BufWriter::new(rt.alloc(), io::writer(&rt))?;
+    let mut out = io::writer(&rt);
     print_words(&mut out)?;
     print_rows(&mut out)?;
     let t = hamming_table::byte_table();
@@ -170,5 +170,5 @@ fn main(rt: HostRuntime) -> io::Result<()> {
     for i in 0..7 {
         print_flips(&mut out, &t, &positions, tried(i))?;
     }
-    out.flush()
+    Ok(())
 }

@@ -5,7 +5,7 @@ mod captures;
 mod places;
 
 use std::io;
-use std::io::{BufWriter, Write};
+use std::io::Write;
 use zr_shell::files::ARGUMENT_BYTES;
 use zr_shell::{files, said};
 
@@ -68,7 +68,6 @@ fn answer_to<W: Write>(out: &mut W, rt: &HostRuntime) -> io::Result<()> {
 }
 
 fn main(rt: HostRuntime) -> io::Result<()> {
-    let mut out = BufWriter::new(rt.alloc(), io::writer(&rt))?;
-    answer_to(&mut out, &rt)?;
-    out.flush()
+    let mut out = io::writer(&rt);
+    answer_to(&mut out, &rt)
 }
