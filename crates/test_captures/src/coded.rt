@@ -1,5 +1,6 @@
 // Codes made inputs of 1, 2, 3 and 8 super frames, and of one with the edges of m0, and writes each answer with a digest of the capture; then calls
 // that are refused, with digests that show the capture unchanged.
+// What holds a large space is not inlined, or the spaces of several calls would stand on the stack at once.
 ghost use Rattle.std.specs.Prelude.{◌≡◌, length};
 ghost use Rattle.buffer_sizes.specs.Lengths.{large_bytes};
 
@@ -31,6 +32,7 @@ fn code_into<W: Write>(
     say(out, r, before, test_data::digest(capture))
 }
 
+#[inline(never)]
 fn code_from<W: Write>(
     out: &mut W,
     n: u64,
@@ -50,6 +52,7 @@ fn code_from<W: Write>(
 }
 
 // Codes with buffers of the lengths given. The information is made from the seed 100 + n, and the parity behind it.
+#[inline(never)]
 fn code<W: Write>(
     out: &mut W,
     n: u64,

@@ -1,6 +1,7 @@
 // Document 01, section "Both sides of each edge": the numbers of super frames, the client blocks and one flip in every word, with what was answered. The
 // same calls are made for every number of super frames from 0 to 9. For 0 and 9 the buffers are those of 1 and of 8, so that their lengths are wrong
 // as well: number 1 comes first. Digests before and after a call show that a refusal changed nothing.
+// What holds a large space is not inlined, or the spaces of several calls would stand on the stack at once.
 ghost use Rattle.std.specs.Prelude.{◌≡◌, length};
 ghost use Rattle.buffer_sizes.specs.Lengths.{large_bytes};
 
@@ -78,6 +79,7 @@ fn code_from<W: Write>(
 }
 
 // With the information and the parity of m super frames, one made behind the other.
+#[inline(never)]
 fn code<W: Write>(out: &mut W, n: u64, m: u64, capture: &mut [u8]) -> io::Result<()> {
     let mut room = buffer_sizes::large_space();
     test_input::fill(100 + n % 10, &mut room);
@@ -106,6 +108,7 @@ fn read_into<W: Write>(
 }
 
 // Into zeros.
+#[inline(never)]
 fn read<W: Write>(out: &mut W, n: u64, m: u64, capture: &[u8]) -> io::Result<()> {
     let mut info = buffer_sizes::large_space();
     let mut parity = buffer_sizes::small_space();
@@ -160,6 +163,7 @@ fn case<W: Write>(out: &mut W, n: u64, m: u64, capture: &mut [u8]) -> io::Result
 }
 
 // With the buffers of m super frames.
+#[inline(never)]
 fn sized<W: Write>(out: &mut W, n: u64, m: u64) -> io::Result<()> {
     let mut capture = buffer_sizes::large_space();
     let k = buffer_sizes::capture(m);

@@ -1,4 +1,5 @@
 // Requests for the information of an FEC block, granted and refused, with the second question, and the length and a digest of the part that came.
+// What holds a large space is not inlined, or the spaces of several calls would stand on the stack at once.
 use std::io::{self, Write};
 
 fn part<W: Write>(out: &mut W, n: u64, t: u64, info: &[u8]) -> io::Result<()> {
@@ -24,6 +25,7 @@ fn ask<W: Write>(out: &mut W, n: u64, last: u64, info: &[u8]) -> io::Result<()> 
     numbered(out, n, 18446744073709551615, info)
 }
 
+#[inline(never)]
 fn parts<W: Write>(out: &mut W, n: u64, last: u64) -> io::Result<()> {
     let mut info = buffer_sizes::large_space();
     let a = buffer_sizes::information(n);
@@ -32,6 +34,7 @@ fn parts<W: Write>(out: &mut W, n: u64, last: u64) -> io::Result<()> {
 }
 
 // A request that is refused, with an information of the length given.
+#[inline(never)]
 fn named<W: Write>(out: &mut W, name: &[u8], n: u64, t: u64, length: usize) -> io::Result<()> {
     let mut info = buffer_sizes::large_space();
     let a = length % (buffer_sizes::LARGE_BYTES + 1);

@@ -1,5 +1,6 @@
 // Reads captures of 1 and of 8 super frames: as they were coded, with one bit flipped in every word, refused by each number at its first and at its
 // last place, by two numbers at once, and for numbers and lengths. Digests show what the buffers hold after each call.
+// What holds a large space is not inlined, or the spaces of several calls would stand on the stack at once.
 use answer::Answer;
 use std::io::{self, Write};
 
@@ -17,6 +18,7 @@ const NONE: [u8; 16] = [0; 16];
 // ---- what was made
 
 // The digest of the bytes that a seed makes, from one place to another.
+#[inline(never)]
 fn digest_of(seed: u64, from: usize, to: usize) -> u64 {
     let b = to % LARGE_LENGTHS;
     if b < from {
@@ -59,6 +61,7 @@ fn read_in<W: Write>(
 }
 
 // Reads into buffers of the lengths given and writes what came.
+#[inline(never)]
 fn read<W: Write>(
     out: &mut W,
     n: u64,
@@ -140,6 +143,7 @@ fn flipped_in<W: Write>(
     read_stated(out, n, m0, capture)
 }
 
+#[inline(never)]
 fn counted_from<W: Write>(
     out: &mut W,
     n: u64,
@@ -211,6 +215,7 @@ fn all_in<W: Write>(out: &mut W, n: u64, capture: &mut [u8]) -> io::Result<()> {
     read_stated(out, n, test_input::first_number(n), capture)
 }
 
+#[inline(never)]
 fn every_word<W: Write>(out: &mut W, n: u64) -> io::Result<()> {
     let mut capture = buffer_sizes::large_space();
     let k = buffer_sizes::capture(n);
@@ -361,6 +366,7 @@ fn readings<W: Write>(out: &mut W, n: u64) -> io::Result<()> {
 
 // ---- numbers and lengths
 
+#[inline(never)]
 fn read_zeros<W: Write>(
     out: &mut W,
     n: u64,

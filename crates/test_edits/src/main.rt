@@ -1,5 +1,6 @@
 // Edits captures of 1, 2 and 8 super frames and writes each answer with digests of the capture and of the list. A granted edit is compared with coding
 // afresh and read back. Then edits that are refused by each number, edits beside flipped bits, and edits of a capture that was never coded.
+// What holds a large space is not inlined, or the spaces of several calls would stand on the stack at once.
 #![tactic(auto)]
 
 ghost use Rattle.std.specs.Prelude.{◌≡◌, length};
@@ -88,6 +89,7 @@ fn fill_input(n: u64, block: u64, room: &mut [u8]) {
     );
 }
 
+#[inline(never)]
 fn code(n: u64, block: u64, capture: &mut [u8]) {
     let mut room = buffer_sizes::large_space();
     fill_input(n, block, &mut room);
@@ -182,6 +184,7 @@ fn codes_to(n: u64, block: u64, capture: &[u8], other: &mut [u8]) -> bool {
 }
 
 // Whether the capture is what coding afresh gives.
+#[inline(never)]
 fn is_afresh(n: u64, block: u64, capture: &[u8]) -> bool {
     let mut other = buffer_sizes::large_space();
     let k = buffer_sizes::capture(n);
@@ -197,6 +200,7 @@ fn fills(n: u64, room: &[u8], info: &[u8], parity: &[u8]) -> bool
 }
 
 // Whether that is what coding afresh takes.
+#[inline(never)]
 fn is_input(n: u64, block: u64, info: &[u8], parity: &[u8]) -> bool {
     let mut room = buffer_sizes::large_space();
     fill_input(n, block, &mut room);
@@ -209,6 +213,7 @@ fn reads_into(n: u64, block: u64, capture: &[u8], info: &mut [u8], parity: &mut 
 }
 
 // Whether the capture reads back to that, with nothing to repair.
+#[inline(never)]
 fn reads_back(n: u64, block: u64, capture: &[u8]) -> bool {
     let mut info = buffer_sizes::large_space();
     let mut parity = buffer_sizes::small_space();
@@ -245,6 +250,7 @@ fn edit_coded<W: Write>(
 }
 
 // Edits a block of n super frames in a capture that has as many as `frames` says. A granted edit is compared with coding afresh and read back.
+#[inline(never)]
 fn edited<W: Write>(
     out: &mut W,
     frames: u64,
@@ -297,6 +303,7 @@ fn say_coded<W: Write>(out: &mut W, n: u64, capture: &mut [u8]) -> io::Result<()
 }
 
 // The capture as it was coded, and the first block past its end.
+#[inline(never)]
 fn past_end<W: Write>(out: &mut W, n: u64) -> io::Result<()> {
     let mut capture = buffer_sizes::large_space();
     let k = buffer_sizes::capture(n);
@@ -355,6 +362,7 @@ fn flipped_in<W: Write>(
 }
 
 // Bit i of word w is wrong and bit j of word x. A granted edit keeps them so: flipped back, the capture is that of the edit without them.
+#[inline(never)]
 fn flipped<W: Write>(
     out: &mut W,
     w: usize,
@@ -458,6 +466,7 @@ fn edit_twice<W: Write>(out: &mut W, block: u64, capture: &mut [u8]) -> io::Resu
 }
 
 // Valid words that no input was coded to. The same edit once more changes nothing.
+#[inline(never)]
 fn never_coded<W: Write>(out: &mut W, block: u64) -> io::Result<()> {
     let mut capture = buffer_sizes::large_space();
     edit_twice(out, block, &mut capture[0..ONE_BYTES])
