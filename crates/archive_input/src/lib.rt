@@ -40,7 +40,7 @@ pub fn read_file<F: Read + Seek>(
 
 // So many first bytes are kept.
 fn kept(size: u64) -> usize
-    ensures { result ≤ 306 }
+    ensures { result ≤ MOST_HEAD_BYTES }
 {
     if size < MOST_HEAD_BYTES as u64 {
         size as usize
