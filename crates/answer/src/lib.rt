@@ -1,10 +1,17 @@
-// What every entry point hands back: a number of document 01's table, a place and a count.
+// What a call answers: a count, or why it is refused, by document 01's table. And what C is handed for it: a number, a place and a count.
 #![tactic(auto)]
 
 ghost use Rattle.std.specs.Prelude.{cond, ◌≡◌};
 ghost use Rattle.answer.specs.Numbers.{wrong_length};
-ghost use Rattle.answer.specs.Rows.{done, refused, wrong, buffer_place};
+ghost use Rattle.answer.specs.Rows.{wrong, buffer_place};
+ghost use Rattle.answer.specs.Refusals.{refused_at, tested, found_at, answered};
+ghost use Rattle.answer.specs.declared.refusal.Refusal.TheVariants.{WrongLength};
 
+mod refusal;
+
+pub use refusal::{Refusal, Refused};
+
+// The numbers that C is handed. Done is number 0 at place 0, and the count of a refusal is 0.
 #[repr(C)]
 #[derive(Clone, Copy)]
 pub struct Answer {
@@ -13,50 +20,22 @@ pub struct Answer {
     pub count: u64,
 }
 
-// The numbers of the table, as `specs/Numbers.antt` names them.
-pub const OUTSIDE_SET: u64 = 1;
+impl From<Result<u64, Refused>> for Answer {
+    ghost from_gives = { λ r a. a ≡ answered r };
 
-pub const WRONG_LENGTH: u64 = 2;
-
-pub const SPARE_BIT: u64 = 3;
-
-pub const BEYOND_REPAIR: u64 = 4;
-
-pub const FILLER_NOT_ZERO: u64 = 5;
-
-pub const WRONG_MBAS: u64 = 6;
-
-pub const WRONG_CRC: u64 = 7;
-
-pub const PAD_NOT_ZERO: u64 = 8;
-
-pub const LISTED_FAILS: u64 = 9;
-
-pub const NOT_ARCHIVE: u64 = 10;
-
-pub const BAD_ENTRY: u64 = 11;
-
-pub const MISPLACED: u64 = 12;
-
-// Done, with its count.
-pub fn granted(count: u64) -> Answer
-    ensures { result ≡ done count }
-{
-    Answer {
-        number: 0,
-        place: 0,
-        count,
-    }
-}
-
-// Refused by a number of the table at a place. The count of a refusal is 0.
-pub fn refuse(number: u64, place: u64) -> Answer
-    ensures { result ≡ refused number place }
-{
-    Answer {
-        number,
-        place,
-        count: 0,
+    fn from(outcome: Result<u64, Refused>) -> Answer {
+        match outcome {
+            Ok(count) => Answer {
+                number: 0,
+                place: 0,
+                count,
+            },
+            Err(refused) => Answer {
+                number: refused.refusal.number(),
+                place: refused.place,
+                count: 0,
+            },
+        }
     }
 }
 
@@ -67,16 +46,30 @@ pub fn buffer_place(position: u64) -> u64
     position
 }
 
-// One test of several in turn: where it holds the call is refused, else what comes next answers.
-pub fn refuse_if(holds: bool, number: u64, place: u64, next: Answer) -> Answer
-    ensures { result ≡ cond holds (refused number place) next }
+// One test of several in turn: where it holds the call is refused, else it goes on.
+pub fn refuse_if(holds: bool, refusal: Refusal, place: u64) -> Result<(), Refused>
+    ensures { result ≡ tested holds (refused_at refusal place) }
 {
-    if holds { refuse(number, place) } else { next }
+    if holds {
+        Err(refusal.at(place))
+    } else {
+        Ok(())
+    }
+}
+
+// A search of several in turn: refused at the place that it found, else it goes on.
+pub fn refuse_at(refusal: Refusal, found: Option<u64>) -> Result<(), Refused>
+    ensures { result ≡ found_at refusal found }
+{
+    match found {
+        Some(place) => Err(refusal.at(place)),
+        None => Ok(()),
+    }
 }
 
 // Lent buffer i, counted from 1, has another length than the stated one.
-pub fn refuse_length(i: u64, long: u64, stated: u64, next: Answer) -> Answer
-    ensures { result ≡ cond (wrong stated long) (refused wrong_length (buffer_place i)) next }
+pub fn refuse_length(i: u64, long: u64, stated: u64) -> Result<(), Refused>
+    ensures { result ≡ tested (wrong stated long) (refused_at WrongLength (buffer_place i)) }
 {
-    refuse_if(long != stated, WRONG_LENGTH, buffer_place(i), next)
+    refuse_if(long != stated, Refusal::WrongLength, buffer_place(i))
 }

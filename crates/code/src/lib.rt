@@ -5,6 +5,7 @@ ghost use Rattle.std.specs.Prelude.{◌≡◌, ◌+◌, ◌*◌, ◌^◌, ◌≤
 ghost use Rattle.prelude.specs.Lists.{tabulate, from_index};
 ghost use Rattle.bits.specs.Bits.{bit_at, byte_of, pack};
 ghost use Rattle.answer.specs.Outcomes.{Outcome};
+ghost use Rattle.answer.specs.Refusals.{answered};
 ghost use Rattle.answer.specs.Rows.{answer_of};
 ghost use Rattle.crc.specs.Steps.{entries};
 ghost use Rattle.sizes.specs.Sizes.{info_bytes, fec_blocks, super_elements, info_length, capture_length, words, most_frames, word_bytes};
@@ -14,7 +15,7 @@ ghost use Rattle.scrambling.specs.Steps.{Agree};
 ghost use Rattle.code.specs.Code.{capture_of, code_rows, code_answer, code_leaves};
 ghost use Rattle.code.specs.Steps.{plain_bit, tail_bit, entry, Crcs, Granted, Ready};
 
-use answer::Answer;
+use answer::{Refusal, Refused};
 
 // Words are written eight at a time.
 const SUPER_GROUPS: usize = sizes::SUPER_ELEMENTS / sizes::GROUP_WORDS;
@@ -28,35 +29,39 @@ const GUARD_BITS: usize = sizes::PARITY_FROM - sizes::INFO_BITS;
 const MOST_BLOCKS: usize = sizes::MOST_FRAMES * sizes::FEC_BLOCKS;
 
 // Codes n super frames whose FEC blocks count from m0 on. The count is the number of words written.
-pub fn code(n: u64, m0: u64, info: &[u8], parity: &[u8], capture: &mut [u8]) -> Answer
+pub fn code(
+    n: u64,
+    m0: u64,
+    info: &[u8],
+    parity: &[u8],
+    capture: &mut [u8],
+) -> Result<u64, Refused>
     ensures { Outcome (code_answer n m0 info.now parity.now capture.old)
-        (code_leaves n m0 info.now parity.now capture.old) result capture.new }
+        (code_leaves n m0 info.now parity.now capture.old) (answered result) capture.new }
 {
-    let r = judge(
+    let words = judge(
         n,
         m0,
         info.len() as u64,
         parity.len() as u64,
         capture.len() as u64,
-    );
-    if r.number == 0 {
-        code_all(n as usize, m0, info, parity, capture);
-    }
-    r
+    )?;
+    code_all(n as usize, m0, info, parity, capture);
+    Ok(words)
 }
 
 // The answer, from the numbers alone.
-fn judge(n: u64, m0: u64, info: u64, parity: u64, capture: u64) -> Answer
-    ensures { result ≡ answer_of (code_rows n m0 info parity capture) (words n) }
+fn judge(n: u64, m0: u64, info: u64, parity: u64, capture: u64) -> Result<u64, Refused>
+    ensures { answered result ≡ answer_of (code_rows n m0 info parity capture) (words n) }
 {
     if !line::numbers_allowed(n, m0) {
-        return answer::refuse(answer::OUTSIDE_SET, 0);
+        return Err(Refusal::OutsideSet.at(0));
     }
+    answer::refuse_length(1, info, sizes::SUPER_INFO_BYTES as u64 * n)?;
+    answer::refuse_length(2, parity, sizes::SUPER_PARITY_BYTES as u64 * n)?;
     let capture_bytes = sizes::SUPER_CAPTURE_BYTES as u64 * n + sizes::FILLER_BYTES as u64;
-    let a = answer::granted(sizes::SUPER_ELEMENTS as u64 * n + sizes::LONGEST_WAIT as u64);
-    let b = answer::refuse_length(3, capture, capture_bytes, a);
-    let c = answer::refuse_length(2, parity, sizes::SUPER_PARITY_BYTES as u64 * n, b);
-    answer::refuse_length(1, info, sizes::SUPER_INFO_BYTES as u64 * n, c)
+    answer::refuse_length(3, capture, capture_bytes)?;
+    Ok(sizes::SUPER_ELEMENTS as u64 * n + sizes::LONGEST_WAIT as u64)
 }
 
 // Makes the tables that every word needs, once, and codes.
