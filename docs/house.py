@@ -15,8 +15,9 @@ ROOT = Path(__file__).resolve().parent.parent
 
 @dataclass(frozen=True)
 class Name:
-    """Something that is declared. Its kind is function, const, struct, enum, type, mod, variant (code), definition, record, data, ruleset,
-    constructor (antt) or field (both); a field, a variant or a constructor has its type as owner."""
+    """Something that is declared. Its kind is function, const, struct, enum, trait, type, mod, variant (code), definition, record, data, ruleset,
+    constructor (antt) or field (both); a field, a variant, a constructor or a method has its type as owner. What an impl of a trait has is not
+    public: the trait speaks for it."""
 
     name: str
     kind: str
@@ -25,6 +26,16 @@ class Name:
     promised: bool  # a function that has an `ensures`
     file: str
     line: int
+
+    @property
+    def called(self) -> str:
+        """How a paper names a function: a method with its type."""
+        return f"{self.owner}::{self.name}" if self.owner else self.name
+
+    @property
+    def theorem(self) -> str:
+        """The theorem that says that a public function has one answer."""
+        return "one_" + re.sub(r"(?<=[a-z0-9])(?=[A-Z])", "_", self.called.replace("::", "_")).lower()
 
 
 @dataclass(frozen=True)
@@ -80,7 +91,8 @@ class Crate:
             raise SystemExit(f"{source}lib.rt: a `pub use` that docs/house.py cannot read")
         handed_on = {(f"{source}{module}.rt", name) for module, one, several in uses for name in re.findall(r"\w+", one or several)}
         functions = [n for n in self.code if n.kind == "fn" and n.public]
-        return [n for n in functions if n.file in open_files or (n.file, n.name) in handed_on]
+        types = {n.name for n in self.code if n.public and n.kind in ("struct", "enum")}
+        return [n for n in functions if (not n.owner or n.owner in types) and (n.file in open_files or (n.file, n.owner or n.name) in handed_on)]
 
 
 def read(path: str) -> str:
@@ -114,33 +126,39 @@ def kept_files() -> Iterator[str]:
 
 # ---- what is declared in a file
 
-CODE = re.compile(r'(?P<public>pub )?(?:extern "C" )?(?P<kind>fn|const|struct|enum|type|mod) (?P<name>\w+)')
+CODE = re.compile(r'(?P<public>pub )?(?:extern "C" )?(?P<kind>fn|const|struct|enum|trait|type|mod) (?P<name>\w+)')
 MEMBER = re.compile(r"    (?P<public>pub )?(?P<name>\w+)(?=[:,(])")
+IMPL = re.compile(r"impl(?:<[^{]*?>)? (?P<trait>.* for )?&?(?P<name>\w+)")
+METHOD = re.compile(r"    (?P<public>pub )?fn (?P<name>\w+)")
 
 
 def names_of_code(file: str) -> Iterator[Name]:
-    """The items of a source file, which `rt fmt` lays out: items begin a line, fields and variants stand four blanks in."""
+    """The items of a source file, which `rt fmt` lays out: items begin a line, fields, variants and methods stand four blanks in."""
     lines = read(file).splitlines()
     owner = kind = ""
     for number, line in enumerate(lines, 1):
-        item, member = CODE.match(line), MEMBER.match(line)
+        item, block, member, method = CODE.match(line), IMPL.match(line), MEMBER.match(line), METHOD.match(line)
         if item:
             kind = item["kind"]
-            owner = item["name"] if kind in ("struct", "enum") and line.endswith("{") else ""
-            promised = kind == "fn" and has_ensures(lines[number - 1 :])
-            yield Name(item["name"], kind, "", bool(item["public"]), promised, file, number)
+            owner = item["name"] if kind in ("struct", "enum", "trait") and line.endswith("{") else ""
+            yield Name(item["name"], kind, "", bool(item["public"]), kind == "fn" and has_ensures(lines[number - 1 :], ""), file, number)
+        elif block:
+            kind, owner = "trait" if block["trait"] else "impl", block["name"]
         elif line.startswith("}"):
             owner = ""
-        elif owner and member:
+        elif owner and method and kind in ("impl", "trait"):
+            public = kind == "impl" and bool(method["public"])
+            yield Name(method["name"], "fn", owner, public, has_ensures(lines[number - 1 :], "    "), file, number)
+        elif owner and member and kind in ("struct", "enum"):
             yield Name(member["name"], "field" if kind == "struct" else "variant", owner, True, False, file, number)
 
 
-def has_ensures(lines: List[str]) -> bool:
+def has_ensures(lines: List[str], blanks: str) -> bool:
     """Whether the function that begins here has an `ensures` before its body."""
     for line in lines:
-        if line.startswith("    ensures "):
+        if line.startswith(blanks + "    ensures "):
             return True
-        if line in ("{", "") or (line.endswith(" {") and not line.startswith("    ")):
+        if line in (blanks + "{", "") or (line.endswith((" {", ";")) and not line.startswith(blanks + "    ")):
             return False
     return False
 

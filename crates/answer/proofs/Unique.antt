@@ -2,6 +2,8 @@
 -- pass here. Assumes nothing.
 use mathlib.Core.Path.{◌≡◌}
 use Rattle.prelude.proofs.Common.{only}
+use Rattle.answer.proofs.granted.Reads as granted
+use Rattle.answer.proofs.refuse.Reads as refuse
 use Rattle.answer.proofs.AnswerFromResultU64Refused.from.Reads as from
 use Rattle.answer.proofs.refusal.Refusal.number.Reads as number
 use Rattle.answer.proofs.refusal.Refusal.at.Reads as at
@@ -10,14 +12,20 @@ use Rattle.answer.proofs.refuse_if.Reads as refuse-if
 use Rattle.answer.proofs.refuse_at.Reads as refuse-at
 use Rattle.answer.proofs.refuse_length.Reads as refuse-length
 
-pub one_from : (κs : _) (a : _) (x y : _) (s t : _) → from.Post κs a x s → from.Post κs a y t → x ≡ y
-one_from κs a x y s t p q = only p q
+pub one_granted : (κs : _) (a : _) (x y : _) (s t : _) → granted.Post κs a x s → granted.Post κs a y t → x ≡ y
+one_granted κs a x y s t p q = only p q
 
-pub one_number : (κs : _) (a : _) (x y : _) (s t : _) → number.Post κs a x s → number.Post κs a y t → x ≡ y
-one_number κs a x y s t p q = only p q
+pub one_refuse : (κs : _) (a : _) (x y : _) (s t : _) → refuse.Post κs a x s → refuse.Post κs a y t → x ≡ y
+one_refuse κs a x y s t p q = only p q
 
-pub one_at : (κs : _) (a : _) (x y : _) (s t : _) → at.Post κs a x s → at.Post κs a y t → x ≡ y
-one_at κs a x y s t p q = only p q
+pub one_answer_from : (κs : _) (a : _) (x y : _) (s t : _) → from.Post κs a x s → from.Post κs a y t → x ≡ y
+one_answer_from κs a x y s t p q = only p q
+
+pub one_refusal_number : (κs : _) (a : _) (x y : _) (s t : _) → number.Post κs a x s → number.Post κs a y t → x ≡ y
+one_refusal_number κs a x y s t p q = only p q
+
+pub one_refusal_at : (κs : _) (a : _) (x y : _) (s t : _) → at.Post κs a x s → at.Post κs a y t → x ≡ y
+one_refusal_at κs a x y s t p q = only p q
 
 pub one_buffer_place : (κs : _) (a : _) (x y : _) (s t : _) → buffer-place.Post κs a x s → buffer-place.Post κs a y t → x ≡ y
 one_buffer_place κs a x y s t p q = only p q

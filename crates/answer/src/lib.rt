@@ -3,7 +3,7 @@
 
 ghost use Rattle.std.specs.Prelude.{cond, ◌≡◌};
 ghost use Rattle.answer.specs.Numbers.{wrong_length};
-ghost use Rattle.answer.specs.Rows.{wrong, buffer_place};
+ghost use Rattle.answer.specs.Rows.{done, refused, wrong, buffer_place};
 ghost use Rattle.answer.specs.Refusals.{refused_at, tested, found_at, answered};
 ghost use Rattle.answer.specs.declared.refusal.Refusal.TheVariants.{WrongLength};
 
@@ -11,7 +11,7 @@ mod refusal;
 
 pub use refusal::{Refusal, Refused};
 
-// The numbers that C is handed. Done is number 0 at place 0, and the count of a refusal is 0.
+// What C is handed.
 #[repr(C)]
 #[derive(Clone, Copy)]
 pub struct Answer {
@@ -20,21 +20,35 @@ pub struct Answer {
     pub count: u64,
 }
 
+// Done, with its count.
+pub fn granted(count: u64) -> Answer
+    ensures { result ≡ done count }
+{
+    Answer {
+        number: 0,
+        place: 0,
+        count,
+    }
+}
+
+// Refused by a number of the table at a place. The count of a refusal is 0.
+pub fn refuse(number: u64, place: u64) -> Answer
+    ensures { result ≡ refused number place }
+{
+    Answer {
+        number,
+        place,
+        count: 0,
+    }
+}
+
 impl From<Result<u64, Refused>> for Answer {
     ghost from_gives = { λ r a. a ≡ answered r };
 
     fn from(outcome: Result<u64, Refused>) -> Answer {
         match outcome {
-            Ok(count) => Answer {
-                number: 0,
-                place: 0,
-                count,
-            },
-            Err(refused) => Answer {
-                number: refused.refusal.number(),
-                place: refused.place,
-                count: 0,
-            },
+            Ok(count) => granted(count),
+            Err(refused) => refuse(refused.refusal.number(), refused.place),
         }
     }
 }
