@@ -2,7 +2,7 @@
 // function takes any capture and any word: past the end there are zeros, and nothing is written.
 #![tactic(auto)]
 
-ghost use Rattle.std.specs.Prelude.{◌≡◌, ◌/◌, ◌^◌, ◌<◌, min, length, set};
+ghost use Rattle.std.specs.Prelude.{◌≡◌, ◌/◌, ◌^◌, ◌<◌, ◌≤◌, length, get_or, set, MatchOption};
 ghost use Rattle.sizes.specs.Sizes.{word_bytes, group_words, group_size};
 ghost use Rattle.hamming_table.specs.Steps.{sum_by_tables};
 ghost use Rattle.line_order.specs.Order.{symbol_place, word_in};
@@ -24,21 +24,21 @@ pub fn place(w: u32, k: u32) -> usize
     group + in_group(w as usize % sizes::GROUP_WORDS, k as usize)
 }
 
-// The same in a capture of so many bytes, or their number where it is past them. No sum here can overflow, however large w is.
-fn place_below(bytes: usize, w: usize, k: usize) -> usize
+// The same in a capture of so many bytes, if it is not past them. No sum here can overflow, however large w is.
+fn place_below(bytes: usize, w: usize, k: usize) -> Option<usize>
     requires { k < word_bytes }
-    ensures { result ≡ min (symbol_place w k) bytes }
+    ensures { MatchOption result (bytes ≤ symbol_place w k) (λ at. (at ≡ symbol_place w k) × (at < bytes)) }
 {
     let g = w / sizes::GROUP_WORDS;
     if bytes / sizes::GROUP_BYTES < g {
-        return bytes;
+        return None;
     }
     let group = sizes::GROUP_BYTES * g;
     let at = in_group(w % sizes::GROUP_WORDS, k);
     if bytes - group <= at {
-        return bytes;
+        return None;
     }
-    group + at
+    Some(group + at)
 }
 
 // ---- a word taken out
@@ -51,10 +51,21 @@ fn word_inside(capture: &[u8], w: usize) -> [u8; 16]
     let group = sizes::GROUP_BYTES * (w / sizes::GROUP_WORDS);
     let j = w % sizes::GROUP_WORDS;
     let mut r = [0u8; 16];
-    for k in 0..sizes::WORD_BYTES {
-        r[k] = capture[group + in_group(j, k)];
+    for (k, x) in r.iter_mut().enumerate() {
+        *x = capture[group + in_group(j, k)];
     }
     r
+}
+
+// Symbol k of word w; 0 past the end.
+fn symbol_at(capture: &[u8], w: usize, k: usize) -> u8
+    requires { k < word_bytes }
+    ensures { result ≡ get_or capture.now (symbol_place w k) 0 }
+{
+    match place_below(capture.len(), w, k) {
+        Some(at) => capture[at],
+        None => 0,
+    }
 }
 
 // The same anywhere.
@@ -62,8 +73,8 @@ fn word_tested(capture: &[u8], w: usize) -> [u8; 16]
     ensures { result ≡ word_in capture.now w }
 {
     let mut r = [0u8; 16];
-    for k in 0..sizes::WORD_BYTES {
-        r[k] = bits::byte_at(capture, place_below(capture.len(), w, k));
+    for (k, x) in r.iter_mut().enumerate() {
+        *x = symbol_at(capture, w, k);
     }
     r
 }
@@ -88,7 +99,7 @@ fn checks_inside(t: &[u16; 4096], capture: &[u8], w: usize) -> u16
     let j = w % sizes::GROUP_WORDS;
     let mut sum = 0u16;
     for k in 0..sizes::WORD_BYTES {
-        sum = sum ^ t[256 * k + bits::wide(capture[group + in_group(j, k)]) as usize];
+        sum ^= t[256 * k + usize::from(capture[group + in_group(j, k)])];
     }
     sum
 }
@@ -113,8 +124,8 @@ fn put_inside(capture: &mut [u8], w: usize, v: [u8; 16])
 {
     let group = sizes::GROUP_BYTES * (w / sizes::GROUP_WORDS);
     let j = w % sizes::GROUP_WORDS;
-    for s in 0..sizes::WORD_BYTES {
-        capture[group + in_group(j, s)] = v[s];
+    for (s, x) in v.iter().enumerate() {
+        capture[group + in_group(j, s)] = *x;
     }
 }
 
@@ -123,19 +134,17 @@ fn put_symbol(capture: &mut [u8], w: usize, k: usize, x: u8)
     requires { k < word_bytes }
     ensures { capture.new ≡ set capture.old (symbol_place w k) x }
 {
-    let at = place_below(capture.len(), w, k);
-    if capture.len() <= at {
-        return;
+    if let Some(at) = place_below(capture.len(), w, k) {
+        capture[at] = x;
     }
-    capture[at] = x;
 }
 
 // The sixteen symbols anywhere.
 fn put_tested(capture: &mut [u8], w: usize, v: [u8; 16])
     ensures { capture.new ≡ put_word capture.old w v }
 {
-    for k in 0..sizes::WORD_BYTES {
-        put_symbol(capture, w, k, v[k]);
+    for (k, x) in v.iter().enumerate() {
+        put_symbol(capture, w, k, *x);
     }
 }
 
@@ -157,8 +166,8 @@ pub fn interleave(words: [[u8; 16]; 8]) -> [u8; 128]
     ensures { result ≡ laid_group words }
 {
     let mut out = [0u8; 128];
-    for w in 0..sizes::GROUP_WORDS {
-        put_inside(&mut out, w, words[w]);
+    for (w, word) in words.iter().enumerate() {
+        put_inside(&mut out, w, *word);
     }
     out
 }
@@ -168,8 +177,8 @@ pub fn deinterleave(s: [u8; 128]) -> [[u8; 16]; 8]
     ensures { result ≡ taken_group s }
 {
     let mut words = [[0u8; 16]; 8];
-    for w in 0..sizes::GROUP_WORDS {
-        words[w] = word_inside(&s, w);
+    for (w, word) in words.iter_mut().enumerate() {
+        *word = word_inside(&s, w);
     }
     words
 }

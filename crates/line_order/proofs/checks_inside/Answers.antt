@@ -29,7 +29,7 @@ loop-k-preserved c = let a = c.args in
     let e : group_size * (a.w / group_words) + c.in_group.result ≡ symbol_place a.w k = rw c.in_group.ensures (place_group a.w k) in
     summed_more c.loop-k.invariant c.loop-k-test.true
     (ap (λ (x : ℕ). get_or a.t.now (256 * k + x) 0)
-    (c.wide.ensures.same ∙ ap (λ (x : ℕ). get_or cap x 0) e ∙ sym (word-symbol cap a.w k (omega arith))))
+    (c.from.ensures ∙ ap (λ (x : ℕ). get_or cap x 0) e ∙ sym (word-symbol cap a.w k (omega arith))))
 
 pub returns : goal.returns
 unfolding sum_by_tables

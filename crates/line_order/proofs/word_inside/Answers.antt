@@ -10,9 +10,9 @@ use Rattle.line_order.specs.Order.{symbol_by, word_by, symbol_place, the_line_or
 use Rattle.line_order.proofs.OrderLaws.{place_group}
 use Rattle.line_order.proofs.word_inside.Goals as goal
 
-pub overflow_add-r : goal.overflow_add-r
+pub overflow_add-x : goal.overflow_add-x
 unfolding symbol_place
-overflow_add-r c = omega (arith, c.in_group.ensures)
+overflow_add-x c = omega (arith, c.in_group.ensures)
 
 pub bounds-capture-group : goal.bounds-capture-group
 unfolding symbol_place

@@ -13,7 +13,7 @@ unfolding symbol_by the_line_order
 loop-k-preserved c = let h = c.loop-k in
     let a = c.args in
     filled_more h.invariant c.loop-k-test.true
-    (c.byte_at.ensures ∙ ap (λ (x : ℕ). get_or a.capture.now x 0) c.place_below.ensures ∙ get_or-below a.capture.now (symbol_place a.w h.k))
+    c.symbol_at.ensures
 
 pub returns : goal.returns
 unfolding word_by
