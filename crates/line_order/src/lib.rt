@@ -2,10 +2,10 @@
 // function takes any capture and any word: past the end there are zeros, and nothing is written.
 #![tactic(auto)]
 
-ghost use Rattle.std.specs.Prelude.{◌≡◌, ◌/◌, ◌^◌, ◌<◌, ◌≤◌, length, get_or, set, MatchOption};
+ghost use Rattle.std.specs.Prelude.{ℕ, ◌≡◌, ◌/◌, ◌^◌, ◌<◌, ◌≤◌, length, set, MatchOption};
 ghost use Rattle.sizes.specs.Sizes.{word_bytes, group_words, group_size};
 ghost use Rattle.hamming_table.specs.Steps.{sum_by_tables};
-ghost use Rattle.line_order.specs.Order.{symbol_place, word_in};
+ghost use Rattle.line_order.specs.Order.{symbol_place, symbol_by, word_in, the_line_order};
 ghost use Rattle.line_order.specs.Steps.{put_word, laid_group, taken_group};
 
 // Where symbol k of word j of a group stands in the group: the one place where the order is written out.
@@ -43,24 +43,32 @@ fn place_below(bytes: usize, w: usize, k: usize) -> Option<usize>
 
 // ---- a word taken out
 
-// The sixteen bytes of word w where the capture has the whole of its group: no byte is tested.
-fn word_inside(capture: &[u8], w: usize) -> [u8; 16]
-    requires { w / group_words < length capture.now / group_size }
+// The sixteen bytes of word w, out of the symbols that `symbol` gives.
+fn word_by<F: Fn(usize) -> u8>(symbol: F, capture: &[u8], w: usize) -> [u8; 16]
+    requires may { (k : ℕ) → k < word_bytes → F.pre symbol k }
+    requires gives { (k : ℕ) (x : _) → k < word_bytes → F.post symbol k x → x ≡ symbol_by the_line_order capture.now w k }
     ensures { result ≡ word_in capture.now w }
 {
-    let group = sizes::GROUP_BYTES * (w / sizes::GROUP_WORDS);
-    let j = w % sizes::GROUP_WORDS;
     let mut r = [0u8; 16];
     for (k, x) in r.iter_mut().enumerate() {
-        *x = capture[group + in_group(j, k)];
+        *x = symbol(k);
     }
     r
 }
 
+// Symbol k of word w where the capture has the whole of the word's group: no byte is tested.
+fn symbol_inside(capture: &[u8], w: usize, k: usize) -> u8
+    requires { (w / group_words < length capture.now / group_size) × (k < word_bytes) }
+    ensures { result ≡ symbol_by the_line_order capture.now w k }
+{
+    let group = sizes::GROUP_BYTES * (w / sizes::GROUP_WORDS);
+    capture[group + in_group(w % sizes::GROUP_WORDS, k)]
+}
+
 // Symbol k of word w; 0 past the end.
-fn symbol_at(capture: &[u8], w: usize, k: usize) -> u8
+fn symbol_tested(capture: &[u8], w: usize, k: usize) -> u8
     requires { k < word_bytes }
-    ensures { result ≡ get_or capture.now (symbol_place w k) 0 }
+    ensures { result ≡ symbol_by the_line_order capture.now w k }
 {
     match place_below(capture.len(), w, k) {
         Some(at) => capture[at],
@@ -68,15 +76,12 @@ fn symbol_at(capture: &[u8], w: usize, k: usize) -> u8
     }
 }
 
-// The same anywhere.
-fn word_tested(capture: &[u8], w: usize) -> [u8; 16]
+// The sixteen bytes of word w where the capture has the whole of its group.
+fn word_inside(capture: &[u8], w: usize) -> [u8; 16]
+    requires { w / group_words < length capture.now / group_size }
     ensures { result ≡ word_in capture.now w }
 {
-    let mut r = [0u8; 16];
-    for (k, x) in r.iter_mut().enumerate() {
-        *x = symbol_at(capture, w, k);
-    }
-    r
+    word_by(|k| symbol_inside(capture, w, k), capture, w)
 }
 
 // The sixteen bytes of word w of a capture; zeros past the end.
@@ -86,7 +91,7 @@ pub fn word_in(capture: &[u8], w: usize) -> [u8; 16]
     if w / sizes::GROUP_WORDS < capture.len() / sizes::GROUP_BYTES {
         word_inside(capture, w)
     } else {
-        word_tested(capture, w)
+        word_by(|k| symbol_tested(capture, w, k), capture, w)
     }
 }
 
@@ -95,11 +100,9 @@ fn checks_inside(t: &[u16; 4096], capture: &[u8], w: usize) -> u16
     requires { w / group_words < length capture.now / group_size }
     ensures { result ≡ sum_by_tables t.now (word_in capture.now w) }
 {
-    let group = sizes::GROUP_BYTES * (w / sizes::GROUP_WORDS);
-    let j = w % sizes::GROUP_WORDS;
     let mut sum = 0u16;
     for k in 0..sizes::WORD_BYTES {
-        sum ^= t[256 * k + usize::from(capture[group + in_group(j, k)])];
+        sum ^= t[256 * k + usize::from(symbol_inside(capture, w, k))];
     }
     sum
 }
