@@ -9,7 +9,7 @@ ghost use Rattle.bits.specs.Steps.{Widened};
 pub fn byte_at(s: &[u8], k: usize) -> u8
     ensures { result ≡ get_or s.now k 0 }
 {
-    if k < s.len() { s[k] } else { 0 }
+    s.get(k).copied().unwrap_or(0)
 }
 
 // Bit i of the bytes s, the first bit being the top one of the first byte; 0 past the end.
@@ -20,17 +20,19 @@ pub fn bit_at(s: &[u8], i: usize) -> u8
 }
 
 // A byte as a wider number: the one place where a byte's bound is shown.
+// Kept: the clause of u32::from says only that the number is the same; this one says too that it is below 256, on which the proofs of
+// read::follow and archive::field::number_at rest.
 pub fn wide(x: u8) -> u32
     ensures { Widened x result }
 {
-    x as u32
+    u32::from(x)
 }
 
 // The eight bits of two bytes, a and then b, that begin at the place of bit i in its byte.
 pub fn eight_of(a: u8, b: u8, i: usize) -> u8
     ensures { result ≡ num 8 (bit_at (a ∷ b ∷ [])) (i % 8) }
 {
-    (((wide(a) * 256 + wide(b)) >> (8 - i % 8)) % 256) as u8
+    (((u32::from(a) * 256 + u32::from(b)) >> (8 - i % 8)) % 256) as u8
 }
 
 // The eight bits from bit i on, wherever they stand; zeros past the end.

@@ -27,8 +27,8 @@ fn behind(field: &[u8], d: usize) -> [u8; 16]
         return [0u8; 16];
     }
     let mut room = [0u8; ROOM_BYTES];
-    for k in 0..ROOM_BYTES {
-        room[k] = room_byte(field, k);
+    for (k, x) in room.iter_mut().enumerate() {
+        *x = room_byte(field, k);
     }
     bits_copy::word_from(&room, sizes::WORD_BITS - d)
 }
@@ -49,8 +49,8 @@ pub fn under(a: usize, z: usize, q: u32, x: [u8; 16], old: [u8; 16]) -> [u8; 16]
     ensures { result ≡ pack word_bytes (masked a z q (bit_at x) (bit_at old)) }
 {
     let mut r = [0u8; 16];
-    for k in 0..sizes::WORD_BYTES {
-        r[k] = under_byte(a, z, q as usize + 8 * k, x[k], old[k]);
+    for (k, y) in r.iter_mut().enumerate() {
+        *y = under_byte(a, z, q as usize + 8 * k, x[k], old[k]);
     }
     r
 }
@@ -66,10 +66,7 @@ fn under_byte(a: usize, z: usize, p: usize, x: u8, old: u8) -> u8
 fn places_before(p: usize, a: usize) -> usize
     ensures { EightBefore p a result }
 {
-    if a <= p {
-        return 0;
-    }
-    if a - p < 8 { a - p } else { 8 }
+    a.saturating_sub(p).min(8)
 }
 
 // The first c bits of x, and then the others of y.
@@ -79,5 +76,5 @@ fn front(c: usize, x: u8, y: u8) -> u8
 {
     let d = 8 - c;
     let m = 1u32 << d;
-    ((bits::wide(x) >> d) * m + bits::wide(y) % m) as u8
+    ((u32::from(x) >> d) * m + u32::from(y) % m) as u8
 }

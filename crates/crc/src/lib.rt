@@ -2,7 +2,7 @@
 // A change of few bits needs neither: `take` goes over those bits, and `shifted` over all that stand behind them at once.
 #![tactic(auto)]
 
-ghost use Rattle.std.specs.Prelude.{◌≡◌, ◌*◌, ◌%◌, ◌<◌, length};
+ghost use Rattle.std.specs.Prelude.{◌≡◌, ◌*◌, ◌%◌, ◌<◌, [], ◌∷◌};
 ghost use Rattle.crc.specs.Crc.{width, poly, crc_shift, crc_step, crc_shift_n};
 ghost use Rattle.crc.specs.Steps.{entry_of, entries, byte_step, product, rem_by, opening, crc_by};
 
@@ -29,7 +29,7 @@ fn take_bit(r: u32, b: u32) -> u32
 pub fn take(r: u32, b: u8) -> u32
     ensures { result ≡ crc_step r (b % 2) }
 {
-    take_bit(r, (b % 2) as u32)
+    take_bit(r, u32::from(b % 2))
 }
 
 // What a·b leaves: Horner's rule, the digits of b from the top.
@@ -78,18 +78,17 @@ pub fn table() -> [u32; 256]
     ensures { result ≡ entries }
 {
     let mut t = [0u32; 256];
-    for b in 0..256usize {
-        t[b] = entry(b as u32);
+    for (b, x) in t.iter_mut().enumerate() {
+        *x = entry(b as u32);
     }
     t
 }
 
-// The remainder r takes in byte k of s: the byte that leaves on top meets it, and the table has what they leave.
-fn take_byte(t: &[u32; 256], s: &[u8], k: usize, r: u32) -> u32
-    requires { k < length s.now }
-    ensures { result ≡ byte_step width t.now s.now k r }
+// The remainder r takes in the byte x: the byte that leaves on top meets it, and the table has what they leave.
+fn take_byte(t: &[u32; 256], x: u8, r: u32) -> u32
+    ensures { result ≡ byte_step width t.now (x ∷ []) 0 r }
 {
-    (r << 8) ^ t[((r >> 24) ^ bits::wide(s[k])) as usize]
+    (r << 8) ^ t[((r >> 24) ^ u32::from(x)) as usize]
 }
 
 // From the remainder start, that of the bytes s: no complements.
@@ -97,8 +96,8 @@ pub fn remainder(t: &[u32; 256], start: u32, s: &[u8]) -> u32
     ensures { result ≡ rem_by t.now start s.now }
 {
     let mut r = start;
-    for k in 0..s.len() {
-        r = take_byte(t, s, k, r);
+    for x in s {
+        r = take_byte(t, *x, r);
     }
     r
 }

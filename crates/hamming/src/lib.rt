@@ -11,38 +11,40 @@ ghost use Rattle.hamming.specs.Steps.{byte_sum, found_of};
 ghost use Rattle.hamming.specs.Repair.{repair_at, repair_of, found_number};
 
 // What repair found: nothing, the bit that it flipped back, or more than it can repair.
-#[derive(Clone, Copy)]
+#[derive(Clone, Copy, Debug, PartialEq, Eq)]
 pub enum Found {
     Clean,
     Flipped(u8),
     Beyond,
 }
 
-#[derive(Clone, Copy)]
+#[derive(Clone, Copy, Debug, PartialEq, Eq)]
 pub struct Repaired {
     pub word: [u8; 16],
     pub found: Found,
 }
 
-// The refusal that a repair comes to, by document 01's numbers.
-pub fn number(found: Found) -> u8
-    ensures { result ≡ found_number found }
-{
-    match found {
-        Found::Clean => 0,
-        Found::Flipped(_) => 0,
-        Found::Beyond => 4,
+impl Found {
+    // The refusal that a repair comes to, by document 01's numbers.
+    pub fn number(self) -> u8
+        ensures { result ≡ found_number self }
+    {
+        match self {
+            Found::Clean => 0,
+            Found::Flipped(_) => 0,
+            Found::Beyond => 4,
+        }
     }
-}
 
-// Whether the checks were not zero: a repaired check bit counts too.
-pub fn is_found(found: Found) -> bool
-    ensures { result ≡ found_of found }
-{
-    match found {
-        Found::Clean => false,
-        Found::Flipped(_) => true,
-        Found::Beyond => true,
+    // Whether the checks were not zero: a repaired check bit counts too.
+    pub fn is_found(self) -> bool
+        ensures { result ≡ found_of self }
+    {
+        match self {
+            Found::Clean => false,
+            Found::Flipped(_) => true,
+            Found::Beyond => true,
+        }
     }
 }
 
@@ -69,7 +71,7 @@ fn byte_sum(t: &[u16; 128], k: usize, x: u8) -> u16
 {
     let mut sum = 0u16;
     for j in 0..8 {
-        sum = sum ^ times(digit_of(x, j), t[8 * k + j]);
+        sum ^= times(digit_of(x, j), t[8 * k + j]);
     }
     sum
 }
@@ -80,8 +82,8 @@ pub fn checks(w: [u8; 16]) -> u16
 {
     let t = hamming_matrix::column_table();
     let mut sum = 0u16;
-    for k in 0..sizes::WORD_BYTES {
-        sum = sum ^ byte_sum(&t, k, w[k]);
+    for (k, x) in w.iter().enumerate() {
+        sum ^= byte_sum(&t, k, *x);
     }
     sum
 }
@@ -103,7 +105,7 @@ fn tail(c: u16) -> u16
     ensures { result ≡ tail_of c }
 {
     let tails = hamming_matrix::tail_table();
-    tails[c as usize]
+    tails[usize::from(c)]
 }
 
 // The code word of an element: its bits 0..118, and the nine that make all checks zero. Bits 119..127 of the argument are ignored.
@@ -119,7 +121,7 @@ fn position(c: u16) -> u8
     ensures { result ≡ position_of c }
 {
     let positions = hamming_matrix::position_table();
-    positions[c as usize]
+    positions[usize::from(c)]
 }
 
 // The word with bit i flipped.
@@ -128,7 +130,7 @@ fn flipped(w: [u8; 16], i: usize) -> [u8; 16]
     ensures { result ≡ flip w i }
 {
     let mut v = w;
-    v[i / 8] = v[i / 8] ^ (128 >> (i % 8));
+    v[i / 8] ^= 128 >> (i % 8);
     v
 }
 
@@ -143,7 +145,7 @@ pub fn repair_at(w: [u8; 16], c: u16, i: u8) -> Repaired
         };
     }
     if i < sizes::WORD_BITS as u8 {
-        let v = flipped(w, i as usize);
+        let v = flipped(w, usize::from(i));
         return Repaired {
             word: v,
             found: Found::Flipped(i),

@@ -48,8 +48,7 @@ pub fn byte_table() -> [u16; 4096]
 fn entry_at(t: &[u16], c: u16) -> u16
     ensures { result ≡ get_or t.now c 0 }
 {
-    let k = c as usize;
-    if k < t.len() { t[k] } else { 0 }
+    t.get(usize::from(c)).copied().unwrap_or(0)
 }
 
 // The sum of a table's entries for the bytes of a word: with the table of `byte_table`, the nine checks.
@@ -57,8 +56,8 @@ pub fn checks_by(t: &[u16; 4096], w: [u8; 16]) -> u16
     ensures { result ≡ sum_by_tables t.now w }
 {
     let mut sum = 0u16;
-    for k in 0..sizes::WORD_BYTES {
-        sum = sum ^ t[256 * k + bits::wide(w[k]) as usize];
+    for (k, x) in w.iter().enumerate() {
+        sum ^= t[256 * k + usize::from(*x)];
     }
     sum
 }
@@ -74,5 +73,5 @@ pub fn encode_by(t: &[u16; 4096], tails: &[u16; 512], e: [u8; 16]) -> [u8; 16]
 pub fn repair_known(positions: &[u8; 512], w: [u8; 16], c: u16) -> Repaired
     ensures { result ≡ repair_at w c (get_or positions.now c 0) }
 {
-    hamming::repair_at(w, c, bits::byte_at(positions, c as usize))
+    hamming::repair_at(w, c, bits::byte_at(positions, usize::from(c)))
 }

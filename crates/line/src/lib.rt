@@ -10,7 +10,7 @@ ghost use Rattle.line.specs.Slots.{slot_of, delay, element_in, holds};
 pub fn super_allowed(n: u64) -> bool
     ensures { result ≡ super_allowed n }
 {
-    1 <= n && n <= sizes::MOST_FRAMES as u64
+    (1..=sizes::MOST_FRAMES as u64).contains(&n)
 }
 
 // The numbers of FEC blocks have seven bits.
@@ -34,7 +34,7 @@ pub fn numbers_allowed(n: u64, m0: u64) -> bool
 pub fn one_of(n: u64, each: u32, x: u64) -> bool
     ensures { result ≡ (super_allowed n && ltb x (each * n)) }
 {
-    super_allowed(n) && x < each as u64 * n
+    super_allowed(n) && x < u64::from(each) * n
 }
 
 // The number of FEC block t.
@@ -72,11 +72,7 @@ pub fn slot(e: u32) -> usize
 pub fn element_in(w: usize) -> usize
     ensures { result ≡ element_in w }
 {
-    let d = wait(w);
-    if d <= w {
-        return w - d;
-    }
-    0
+    w.saturating_sub(wait(w))
 }
 
 // Whether word w of n super frames holds an element; otherwise it is filler.

@@ -2,10 +2,10 @@
 // function takes any capture and any word: past the end there are zeros, and nothing is written.
 #![tactic(auto)]
 
-ghost use Rattle.std.specs.Prelude.{◌≡◌, ◌/◌, ◌^◌, ◌<◌, min, length, set};
+ghost use Rattle.std.specs.Prelude.{ℕ, ◌≡◌, ◌/◌, ◌^◌, ◌<◌, ◌≤◌, length, set, MatchOption};
 ghost use Rattle.sizes.specs.Sizes.{word_bytes, group_words, group_size};
 ghost use Rattle.hamming_table.specs.Steps.{sum_by_tables};
-ghost use Rattle.line_order.specs.Order.{symbol_place, word_in};
+ghost use Rattle.line_order.specs.Order.{symbol_place, symbol_by, word_in, the_line_order};
 ghost use Rattle.line_order.specs.Steps.{put_word, laid_group, taken_group};
 
 // Where symbol k of word j of a group stands in the group: the one place where the order is written out.
@@ -24,48 +24,64 @@ pub fn place(w: u32, k: u32) -> usize
     group + in_group(w as usize % sizes::GROUP_WORDS, k as usize)
 }
 
-// The same in a capture of so many bytes, or their number where it is past them. No sum here can overflow, however large w is.
-fn place_below(bytes: usize, w: usize, k: usize) -> usize
+// The same in a capture of so many bytes, if it is not past them. No sum here can overflow, however large w is.
+fn place_below(bytes: usize, w: usize, k: usize) -> Option<usize>
     requires { k < word_bytes }
-    ensures { result ≡ min (symbol_place w k) bytes }
+    ensures { MatchOption result (bytes ≤ symbol_place w k) (λ at. (at ≡ symbol_place w k) × (at < bytes)) }
 {
     let g = w / sizes::GROUP_WORDS;
     if bytes / sizes::GROUP_BYTES < g {
-        return bytes;
+        return None;
     }
     let group = sizes::GROUP_BYTES * g;
     let at = in_group(w % sizes::GROUP_WORDS, k);
     if bytes - group <= at {
-        return bytes;
+        return None;
     }
-    group + at
+    Some(group + at)
 }
 
 // ---- a word taken out
 
-// The sixteen bytes of word w where the capture has the whole of its group: no byte is tested.
-fn word_inside(capture: &[u8], w: usize) -> [u8; 16]
-    requires { w / group_words < length capture.now / group_size }
+// The sixteen bytes of word w, out of the symbols that `symbol` gives.
+fn word_by<F: Fn(usize) -> u8>(symbol: F, capture: &[u8], w: usize) -> [u8; 16]
+    requires may { (k : ℕ) → k < word_bytes → F.pre symbol k }
+    requires gives { (k : ℕ) (x : _) → k < word_bytes → F.post symbol k x → x ≡ symbol_by the_line_order capture.now w k }
     ensures { result ≡ word_in capture.now w }
 {
-    let group = sizes::GROUP_BYTES * (w / sizes::GROUP_WORDS);
-    let j = w % sizes::GROUP_WORDS;
     let mut r = [0u8; 16];
-    for k in 0..sizes::WORD_BYTES {
-        r[k] = capture[group + in_group(j, k)];
+    for (k, x) in r.iter_mut().enumerate() {
+        *x = symbol(k);
     }
     r
 }
 
-// The same anywhere.
-fn word_tested(capture: &[u8], w: usize) -> [u8; 16]
+// Symbol k of word w where the capture has the whole of the word's group: no byte is tested.
+fn symbol_inside(capture: &[u8], w: usize, k: usize) -> u8
+    requires { (w / group_words < length capture.now / group_size) × (k < word_bytes) }
+    ensures { result ≡ symbol_by the_line_order capture.now w k }
+{
+    let group = sizes::GROUP_BYTES * (w / sizes::GROUP_WORDS);
+    capture[group + in_group(w % sizes::GROUP_WORDS, k)]
+}
+
+// Symbol k of word w; 0 past the end.
+fn symbol_tested(capture: &[u8], w: usize, k: usize) -> u8
+    requires { k < word_bytes }
+    ensures { result ≡ symbol_by the_line_order capture.now w k }
+{
+    match place_below(capture.len(), w, k) {
+        Some(at) => capture[at],
+        None => 0,
+    }
+}
+
+// The sixteen bytes of word w where the capture has the whole of its group.
+fn word_inside(capture: &[u8], w: usize) -> [u8; 16]
+    requires { w / group_words < length capture.now / group_size }
     ensures { result ≡ word_in capture.now w }
 {
-    let mut r = [0u8; 16];
-    for k in 0..sizes::WORD_BYTES {
-        r[k] = bits::byte_at(capture, place_below(capture.len(), w, k));
-    }
-    r
+    word_by(|k| symbol_inside(capture, w, k), capture, w)
 }
 
 // The sixteen bytes of word w of a capture; zeros past the end.
@@ -75,7 +91,7 @@ pub fn word_in(capture: &[u8], w: usize) -> [u8; 16]
     if w / sizes::GROUP_WORDS < capture.len() / sizes::GROUP_BYTES {
         word_inside(capture, w)
     } else {
-        word_tested(capture, w)
+        word_by(|k| symbol_tested(capture, w, k), capture, w)
     }
 }
 
@@ -84,11 +100,9 @@ fn checks_inside(t: &[u16; 4096], capture: &[u8], w: usize) -> u16
     requires { w / group_words < length capture.now / group_size }
     ensures { result ≡ sum_by_tables t.now (word_in capture.now w) }
 {
-    let group = sizes::GROUP_BYTES * (w / sizes::GROUP_WORDS);
-    let j = w % sizes::GROUP_WORDS;
     let mut sum = 0u16;
     for k in 0..sizes::WORD_BYTES {
-        sum = sum ^ t[256 * k + bits::wide(capture[group + in_group(j, k)]) as usize];
+        sum ^= t[256 * k + usize::from(symbol_inside(capture, w, k))];
     }
     sum
 }
@@ -113,8 +127,8 @@ fn put_inside(capture: &mut [u8], w: usize, v: [u8; 16])
 {
     let group = sizes::GROUP_BYTES * (w / sizes::GROUP_WORDS);
     let j = w % sizes::GROUP_WORDS;
-    for s in 0..sizes::WORD_BYTES {
-        capture[group + in_group(j, s)] = v[s];
+    for (s, x) in v.iter().enumerate() {
+        capture[group + in_group(j, s)] = *x;
     }
 }
 
@@ -123,19 +137,17 @@ fn put_symbol(capture: &mut [u8], w: usize, k: usize, x: u8)
     requires { k < word_bytes }
     ensures { capture.new ≡ set capture.old (symbol_place w k) x }
 {
-    let at = place_below(capture.len(), w, k);
-    if capture.len() <= at {
-        return;
+    if let Some(at) = place_below(capture.len(), w, k) {
+        capture[at] = x;
     }
-    capture[at] = x;
 }
 
 // The sixteen symbols anywhere.
 fn put_tested(capture: &mut [u8], w: usize, v: [u8; 16])
     ensures { capture.new ≡ put_word capture.old w v }
 {
-    for k in 0..sizes::WORD_BYTES {
-        put_symbol(capture, w, k, v[k]);
+    for (k, x) in v.iter().enumerate() {
+        put_symbol(capture, w, k, *x);
     }
 }
 
@@ -157,8 +169,8 @@ pub fn interleave(words: [[u8; 16]; 8]) -> [u8; 128]
     ensures { result ≡ laid_group words }
 {
     let mut out = [0u8; 128];
-    for w in 0..sizes::GROUP_WORDS {
-        put_inside(&mut out, w, words[w]);
+    for (w, word) in words.iter().enumerate() {
+        put_inside(&mut out, w, *word);
     }
     out
 }
@@ -168,8 +180,8 @@ pub fn deinterleave(s: [u8; 128]) -> [[u8; 16]; 8]
     ensures { result ≡ taken_group s }
 {
     let mut words = [[0u8; 16]; 8];
-    for w in 0..sizes::GROUP_WORDS {
-        words[w] = word_inside(&s, w);
+    for (w, word) in words.iter_mut().enumerate() {
+        *word = word_inside(&s, w);
     }
     words
 }

@@ -1,7 +1,7 @@
 // The scrambler added, eight bits at a time: coding, reading and editing have this one function for it. Adding it twice gives the bytes back.
 #![tactic(auto)]
 
-ghost use Rattle.std.specs.Prelude.{◌≡◌, ◌+◌, ◌/◌, ◌<◌, length};
+ghost use Rattle.std.specs.Prelude.{ℕ, ◌≡◌, ◌+◌, ◌/◌, ◌≤◌, length, get_or};
 ghost use Rattle.sizes.specs.Sizes.{word_bytes};
 ghost use Rattle.prelude.specs.Lists.{tabulate, from_index};
 ghost use Rattle.bits.specs.Bits.{bit_at, pack, added};
@@ -10,38 +10,27 @@ ghost use Rattle.scrambling.specs.Steps.{added_byte, period_place};
 // One period of the scrambler's sequence, and a word's bits more, so that a word can be cut out anywhere.
 pub const PERIOD_BYTES: usize = 8208;
 
-// The same as `add` where the sequence reaches past the bytes: no byte is tested.
-fn add_inside(sequence: &[u8], at: usize, out: &mut [u8])
-    requires { at / 8 + length out.old < length sequence.now }
+// Adds the sequence from bit `at` on to the bits of out, eight at a time, out of the bytes that `byte` gives: those of the sequence.
+fn add_by<F: Fn(usize) -> u8>(byte: F, sequence: &[u8], at: usize, out: &mut [u8])
+    requires may { (k : ℕ) → at / 8 ≤ k → k ≤ at / 8 + length out.old → F.pre byte k }
+    requires gives { (k : ℕ) (x : _) → F.post byte k x → x ≡ get_or sequence.now k 0 }
     ensures { out.new ≡ tabulate (length out.old) (added_byte out.old (from_index (bit_at sequence.now) at)) }
 {
     let first = at / 8;
-    for k in 0..out.len() {
-        out[k] = out[k] ^ bits::eight_of(sequence[first + k], sequence[first + k + 1], at);
+    for (k, x) in out.iter_mut().enumerate() {
+        *x ^= bits::eight_of(byte(first + k), byte(first + k + 1), at);
     }
 }
 
-// The same anywhere.
-fn add_tested(sequence: &[u8], at: usize, out: &mut [u8])
-    ensures { out.new ≡ tabulate (length out.old) (added_byte out.old (from_index (bit_at sequence.now) at)) }
-{
-    let first = at / 8;
-    for k in 0..out.len() {
-        let a = bits::byte_at(sequence, first + k);
-        let b = bits::byte_at(sequence, first + k + 1);
-        out[k] = out[k] ^ bits::eight_of(a, b, at);
-    }
-}
-
-// Adds the sequence from bit `at` on to the bits of out, eight at a time: a super frame, an element or a part of one, scrambled or
-// descrambled. Past its end the sequence adds nothing.
+// Adds the sequence from bit `at` on to the bits of out: a super frame, an element or a part of one, scrambled or descrambled. Past its
+// end the sequence adds nothing; where it reaches past the bytes none is tested.
 pub fn add(sequence: &[u8], at: usize, out: &mut [u8])
     ensures { out.new ≡ tabulate (length out.old) (added_byte out.old (from_index (bit_at sequence.now) at)) }
 {
     if at / 8 + out.len() < sequence.len() {
-        add_inside(sequence, at, out);
+        add_by(|k| sequence[k], sequence, at, out);
     } else {
-        add_tested(sequence, at, out);
+        add_by(|k| bits::byte_at(sequence, k), sequence, at, out);
     }
 }
 

@@ -6,6 +6,4 @@ use Rattle.bits.proofs.eight_of.Goals as goal
 
 pub returns : goal.returns
 returns c = let a = c.args in
-    let x = c.wide.ensures in
-    let y = c.wide-2.ensures in
-    rw (x.same, y.same) (two_window 8 a.a a.b (a.i % 8) (omega arith) (omega (arith, x.same, x.small)) (omega (arith, y.same, y.small)))
+    rw (c.from.ensures, c.from-2.ensures) (two_window 8 a.a a.b (a.i % 8) (omega arith) (omega (arith, c.ranges.a.fits)) (omega (arith, c.ranges.b.fits)))

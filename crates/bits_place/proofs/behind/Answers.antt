@@ -13,7 +13,7 @@ returns-then-d-ge-WORD_BITS c = let a = c.args in nothing_placed a.d (bit_at a.f
 pub returns : goal.returns
 returns c = let a = c.args in
     let e = filled_all 32 c.loop-k.invariant c.loop-k-test.false refl in
-    c.word_from.ensures ∙ room_placed a.field.now c.loop-k.room e a.d (omega arith)
+    c.word_from.ensures ∙ room_placed a.field.now c.loop-k.x-items e a.d (omega arith)
 
 pub loop-k-init : goal.loop-k-init
 loop-k-init c = search loops

@@ -9,20 +9,18 @@ use Rattle.bits_place.proofs.Masking.{one_shifted, front_lt, front_made}
 use Rattle.bits_place.proofs.front.Goals as goal
 
 pub overflow_mul-result : goal.overflow_mul-result
-overflow_mul-result c = record { fits = omega (arith, front_lt c.args.c c.wide.result 0 c.requires c.wide.ensures.small (omega arith)) }
+overflow_mul-result c = record { fits = omega (arith, front_lt c.args.c c.from.result 0 c.requires (omega arith) (omega arith)) }
 
 pub nonzero_rem-result : goal.nonzero_rem-result
 nonzero_rem-result c = let k = c.args.c in omega (arith, one_shifted k, pow_pos (8 - k))
 
 pub overflow_add-result : goal.overflow_add-result
-overflow_add-result c = let l = front_lt c.args.c c.wide.result c.wide-2.result c.requires c.wide.ensures.small c.wide-2.ensures.small in
+overflow_add-result c = let l = front_lt c.args.c c.from.result c.from-2.result c.requires (omega arith) (omega arith) in
     record { fits = omega (arith, l) }
 
 pub overflow_cast-result-2 : goal.overflow_cast-result-2
-overflow_cast-result-2 c = record { fits = front_lt c.args.c c.wide.result c.wide-2.result c.requires c.wide.ensures.small c.wide-2.ensures.small }
+overflow_cast-result-2 c = record { fits = front_lt c.args.c c.from.result c.from-2.result c.requires (omega arith) (omega arith) }
 
 pub returns : goal.returns
-returns c = let x = c.wide in
-    let y = c.wide-2 in
-    front_made c.args.c x.result y.result c.requires x.ensures.small y.ensures.small
-    ∙ ap₂ (λ (u v : ℕ). num 8 (fronted c.args.c u v) 0) x.ensures.same y.ensures.same
+returns c = front_made c.args.c c.from.result c.from-2.result c.requires (omega arith) (omega arith)
+    ∙ ap₂ (λ (u v : ℕ). num 8 (fronted c.args.c u v) 0) c.from.ensures c.from-2.ensures

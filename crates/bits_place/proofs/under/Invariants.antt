@@ -5,4 +5,4 @@ use Rattle.bits_place.specs.Steps.{masked}
 use Rattle.bits_place.proofs.under.Given as goal
 
 abbrev pub invariant-loop-k : goal.invariant-loop-k
-invariant-loop-k l = Filled l.k (byte_of (masked l.a l.z l.q (bit_at l.x) (bit_at l.old))) l.initial.r l.r
+invariant-loop-k l = Filled l.k (byte_of (masked l.a l.z l.q (bit_at l.x) (bit_at l.old))) l.initial.y-items l.y-items

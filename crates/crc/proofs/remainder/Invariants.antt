@@ -6,5 +6,5 @@ use Rattle.crc.specs.Crc.{width}
 use Rattle.crc.specs.Steps.{byte_step}
 use Rattle.crc.proofs.remainder.Given as goal
 
-abbrev pub invariant-loop-k : goal.invariant-loop-k
-invariant-loop-k l = (l.k ≤ length l.s) × Folded (byte_step width l.t l.s) l.start l.k l.r
+abbrev pub invariant-loop-x : goal.invariant-loop-x
+invariant-loop-x l = (l.x-index ≤ length l.s) × Folded (byte_step width l.t l.s) l.start l.x-index l.r

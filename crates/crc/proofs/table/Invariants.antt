@@ -5,4 +5,4 @@ use Rattle.crc.specs.Steps.{entry_of}
 use Rattle.crc.proofs.table.Given as goal
 
 abbrev pub invariant-loop-b : goal.invariant-loop-b
-invariant-loop-b l = Filled l.b (entry_of width poly) l.initial.t l.t
+invariant-loop-b l = Filled l.b (entry_of width poly) l.initial.x-items l.x-items

@@ -5,4 +5,4 @@ use Rattle.hamming_matrix.proofs.Sums.{Summed}
 use Rattle.hamming.proofs.checks.Given as goal
 
 abbrev pub invariant-loop-k : goal.invariant-loop-k
-invariant-loop-k l = Summed (byte_of_sum l.w) word_bytes l.k l.sum
+invariant-loop-k l = Summed (byte_of_sum l.fn.w) word_bytes l.k l.sum

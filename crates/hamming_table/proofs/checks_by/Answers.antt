@@ -8,7 +8,7 @@ loop-k-init c = summed_none
 
 pub loop-k-preserved : goal.loop-k-preserved
 unfolding entry_at
-loop-k-preserved c = summed_more c.loop-k.invariant c.loop-k-test.true (rw c.wide.ensures.same)
+loop-k-preserved c = summed_more c.loop-k.invariant c.loop-k-test.true (rw c.from.ensures)
 
 pub returns : goal.returns
 unfolding sum_by_tables

@@ -5,4 +5,4 @@ use Rattle.hamming_matrix.proofs.Sums.{Summed}
 use Rattle.hamming_table.proofs.checks_by.Given as goal
 
 abbrev pub invariant-loop-k : goal.invariant-loop-k
-invariant-loop-k l = Summed (entry_at l.t l.w) word_bytes l.k l.sum
+invariant-loop-k l = Summed (entry_at l.t l.fn.w) word_bytes l.k l.sum

@@ -8,4 +8,4 @@ use Rattle.line_order.specs.Steps.{replace_by, group_word}
 use Rattle.line_order.proofs.interleave.Given as goal
 
 abbrev pub invariant-loop-w : goal.invariant-loop-w
-invariant-loop-w l = Folded (replace_by the_line_order (λ x v. group_word l.words x)) l.initial.out l.w l.out × (length l.out ≡ length l.initial.out) × (l.w ≤ 8)
+invariant-loop-w l = Folded (replace_by the_line_order (λ x v. group_word l.fn.words x)) l.initial.out l.w l.out × (length l.out ≡ length l.initial.out) × (l.w ≤ 8)

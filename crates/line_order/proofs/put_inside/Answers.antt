@@ -16,8 +16,8 @@ overflow_mul-group c = omega arith
 pub loop-s-init : goal.loop-s-init
 loop-s-init c = (folded_none, refl, omega arith)
 
-pub bounds-v-s : goal.bounds-v-s
-bounds-v-s c = omega arith
+pub bounds-x-items-s : goal.bounds-x-items-s
+bounds-x-items-s c = omega arith
 
 pub in_group-requires : goal.in_group-requires
 in_group-requires c = (omega arith, omega arith)

@@ -9,4 +9,4 @@ use Rattle.line_order.specs.Steps.{put_symbol_by}
 use Rattle.line_order.proofs.put_inside.Given as goal
 
 abbrev pub invariant-loop-s : goal.invariant-loop-s
-invariant-loop-s l = Folded (put_symbol_by the_line_order l.w l.v) l.initial.capture l.s l.capture × (length l.capture ≡ length l.initial.capture) × (l.s ≤ word_bytes)
+invariant-loop-s l = Folded (put_symbol_by the_line_order l.w l.fn.v) l.initial.capture l.s l.capture × (length l.capture ≡ length l.initial.capture) × (l.s ≤ word_bytes)

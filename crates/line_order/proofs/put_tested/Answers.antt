@@ -11,8 +11,8 @@ use Rattle.line_order.proofs.put_tested.Goals as goal
 pub loop-k-init : goal.loop-k-init
 loop-k-init c = (folded_none, refl, omega arith)
 
-pub bounds-v-k : goal.bounds-v-k
-bounds-v-k c = omega arith
+pub bounds-x-items-k : goal.bounds-x-items-k
+bounds-x-items-k c = omega arith
 
 pub put_symbol-requires : goal.put_symbol-requires
 put_symbol-requires c = omega arith

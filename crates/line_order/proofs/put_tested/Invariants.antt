@@ -9,4 +9,4 @@ use Rattle.line_order.specs.Steps.{put_symbol_by}
 use Rattle.line_order.proofs.put_tested.Given as goal
 
 abbrev pub invariant-loop-k : goal.invariant-loop-k
-invariant-loop-k l = Folded (put_symbol_by the_line_order l.w l.v) l.initial.capture l.k l.capture × (length l.capture ≡ length l.initial.capture) × (l.k ≤ word_bytes)
+invariant-loop-k l = Folded (put_symbol_by the_line_order l.w l.fn.v) l.initial.capture l.k l.capture × (length l.capture ≡ length l.initial.capture) × (l.k ≤ word_bytes)
