@@ -9,22 +9,22 @@ ghost use Rattle.read_spec.specs.Steps.{verdict_of};
 
 use answer::{Refusal, Refused};
 
-// What the pass over the words found: the first word beyond repair and the first filler word not zero, each the number of words where there
-// is none, and how many words had checks that were not zero.
+// What the pass over the words found: the first word beyond repair, the first filler word that is not zero, and how many words had checks
+// that were not zero.
 #[derive(Clone, Copy)]
 pub struct WordTally {
-    pub beyond: usize,
-    pub filler: usize,
-    pub seen: usize,
+    pub beyond: Option<u64>,
+    pub filler: Option<u64>,
+    pub seen: u64,
 }
 
 // What the pass over the super frames found: the first FEC block whose MBAS, and whose CRC, is wrong, and the first super frame whose pad
-// is not zero; each the number of places where there is none.
+// is not zero.
 #[derive(Clone, Copy)]
 pub struct BlockTally {
-    pub mbas: usize,
-    pub crc: usize,
-    pub pad: usize,
+    pub mbas: Option<u64>,
+    pub crc: Option<u64>,
+    pub pad: Option<u64>,
 }
 
 // Numbers 1 and 2, before anything is read.
@@ -48,16 +48,13 @@ pub fn judge(
 }
 
 // The smallest number that applies, at its first place.
-pub fn verdict(n: u32, w: WordTally, b: BlockTally) -> Result<u64, Refused>
-    ensures { answered result ≡ verdict_of n w b }
+pub fn verdict(w: WordTally, b: BlockTally) -> Result<u64, Refused>
+    ensures { answered result ≡ verdict_of w b }
 {
-    let frames = n as usize;
-    let words = sizes::SUPER_ELEMENTS * frames + sizes::LONGEST_WAIT;
-    let blocks = sizes::FEC_BLOCKS * frames;
-    answer::refuse_if(w.beyond < words, Refusal::BeyondRepair, w.beyond as u64)?;
-    answer::refuse_if(w.filler < words, Refusal::FillerNotZero, w.filler as u64)?;
-    answer::refuse_if(b.mbas < blocks, Refusal::WrongMbas, b.mbas as u64)?;
-    answer::refuse_if(b.crc < blocks, Refusal::WrongCrc, b.crc as u64)?;
-    answer::refuse_if(b.pad < frames, Refusal::PadNotZero, b.pad as u64)?;
-    Ok(w.seen as u64)
+    answer::refuse_at(Refusal::BeyondRepair, w.beyond)?;
+    answer::refuse_at(Refusal::FillerNotZero, w.filler)?;
+    answer::refuse_at(Refusal::WrongMbas, b.mbas)?;
+    answer::refuse_at(Refusal::WrongCrc, b.crc)?;
+    answer::refuse_at(Refusal::PadNotZero, b.pad)?;
+    Ok(w.seen)
 }
