@@ -6,6 +6,7 @@ ghost use Rattle.prelude.specs.Lists.{tabulate, from_index};
 ghost use Rattle.bits.specs.Bits.{num, bit_at, pack};
 ghost use Rattle.prelude.specs.Loops.{upto};
 ghost use Rattle.answer.specs.Outcomes.{Outcome};
+ghost use Rattle.answer.specs.Refusals.{answered};
 ghost use Rattle.crc.specs.Crc.{crc_of};
 ghost use Rattle.crc.specs.Steps.{entries};
 ghost use Rattle.hamming.specs.Code.{checks_of};
@@ -18,10 +19,10 @@ ghost use Rattle.line.specs.Slots.{slot_of, holds};
 ghost use Rattle.line_order.specs.Order.{word_in};
 ghost use Rattle.line.specs.Words.{fec_in};
 ghost use Rattle.read_spec.specs.Read.{repaired, all_zero, read_answer, read_leaves};
-ghost use Rattle.read_spec.specs.Steps.{AcceptedRead, OneIf, Tables, sequence, sought_of, words_to, frame_of, followed, received_in, mbas_off, crc_off, pad_off};
+ghost use Rattle.read_spec.specs.Steps.{AcceptedRead, sequence, words_to, frame_of, followed, received_in, mbas_off, crc_off, pad_off};
 ghost use Rattle.read_spec.specs.Steps.{block_taken, frames_to, info_in, parity_in, late_answer, late_leaves};
 
-use answer::Answer;
+use answer::Refused;
 use hamming::Repaired;
 use read_spec::{BlockTally, WordTally};
 
@@ -33,46 +34,54 @@ const PAD_BYTES: usize = (sizes::PAD_BITS + 7) / 8;
 
 // Takes n super frames, whose FEC blocks count from m0 on, and a capture, and fills information and parity. The count is that of the
 // words whose checks were not zero.
-pub fn read(n: u64, m0: u64, capture: &[u8], info: &mut [u8], parity: &mut [u8]) -> Answer
+pub fn read(
+    n: u64,
+    m0: u64,
+    capture: &[u8],
+    info: &mut [u8],
+    parity: &mut [u8],
+) -> Result<u64, Refused>
     ensures { Outcome (read_answer n m0 capture.now info.old parity.old)
-        (read_leaves n m0 capture.now info.old parity.old) result (info.new, parity.new) }
+        (read_leaves n m0 capture.now info.old parity.old) (answered result) (info.new, parity.new) }
 {
-    let r = read_spec::judge(
+    read_spec::judge(
         n,
         m0,
         capture.len() as u64,
         info.len() as u64,
         parity.len() as u64,
-    );
-    if r.number == 0 {
-        read_accepted(n as usize, m0, capture, info, parity)
-    } else {
-        r
-    }
+    )?;
+    read_accepted(n as usize, m0, capture, info, parity)
 }
 
 // The numbers and lengths are right. Tables are made once and lent; a constant one would be copied at every use.
-fn read_accepted(n: usize, m0: u64, capture: &[u8], info: &mut [u8], parity: &mut [u8]) -> Answer
+fn read_accepted(
+    n: usize,
+    m0: u64,
+    capture: &[u8],
+    info: &mut [u8],
+    parity: &mut [u8],
+) -> Result<u64, Refused>
     requires { AcceptedRead n capture.now info.old parity.old }
-    ensures { Outcome (late_answer n m0 capture.now) (late_leaves n m0 capture.now info.old parity.old) result
+    ensures { Outcome (late_answer n m0 capture.now) (late_leaves n m0 capture.now info.old parity.old) (answered result)
         (info.new, parity.new) }
 {
-    let t = hamming_table::byte_table();
+    let table = hamming_table::byte_table();
     let positions = hamming_matrix::position_table();
-    let mut scr = [0u8; SEQUENCE_BYTES];
-    whole_sequence(&mut scr);
-    let mut buffer = blank();
-    read_by(
-        &t,
-        &positions,
-        &scr,
+    let crcs = crc::table();
+    let mut scrambler = [0u8; SEQUENCE_BYTES];
+    whole_sequence(&mut scrambler);
+    let reader = Reader {
         n,
         m0,
         capture,
-        &mut buffer,
-        info,
-        parity,
-    )
+        table: &table,
+        positions: &positions,
+        crcs: &crcs,
+        scrambler: &scrambler,
+    };
+    let mut buffer = blank();
+    reader.read(&mut buffer, info, parity)
 }
 
 // What is added to the bytes of a super frame. It is made where it stands: handed out, it would be on the stack twice.
@@ -87,157 +96,225 @@ fn blank() -> [u8; sizes::SUPER_BYTES] {
     [0u8; sizes::SUPER_BYTES]
 }
 
-// Both passes, and the writing where nothing is wrong. The buffer is lent for one super frame at a time.
-fn read_by(
-    t: &[u16; 4096],
-    positions: &[u8; 512],
-    scr: &[u8],
+// A capture of n super frames, whose FEC blocks count from m0 on, and the tables lent.
+#[derive(Clone, Copy)]
+struct Reader<'a> {
     n: usize,
     m0: u64,
-    capture: &[u8],
-    buffer: &mut [u8],
-    info: &mut [u8],
-    parity: &mut [u8],
-) -> Answer
-    requires { Tables t.now positions.now × (scr.now ≡ sequence) × (length buffer.old ≡ super_bytes)
-        × AcceptedRead n capture.now info.old parity.old }
-    ensures { Outcome (late_answer n m0 capture.now) (late_leaves n m0 capture.now info.old parity.old) result
-        (info.new, parity.new) }
-{
-    let w = tally_words(t, positions, n, capture);
-    let b = tally_frames(t, positions, scr, n, m0, capture, buffer);
-    let r = read_spec::verdict(n as u32, w, b);
-    if r.number == 0 {
-        write_frames(t, positions, scr, n, capture, buffer, info, parity);
-    }
-    r
+    capture: &'a [u8],
+    table: &'a [u16; 4096],
+    positions: &'a [u8; 512],
+    crcs: &'a [u32; 256],
+    scrambler: &'a [u8],
+    ghost few: { n ≤ most_frames },
+    ghost sums: { table.now ≡ byte_table },
+    ghost places: { positions.now ≡ position_table },
+    ghost divides: { crcs.now ≡ entries },
+    ghost scrambles: { scrambler.now ≡ sequence },
 }
 
-// A search that goes on to the end: x is the first place picked among the first k, or k, and place k is taken in.
-fn sought(x: usize, k: usize, here: bool) -> usize
-    requires { k < 2 ^ 32 }
-    ensures { result ≡ sought_of x k here }
-{
-    if x < k {
-        return x;
+impl Reader<'_> {
+    // Both passes, and the writing where nothing is wrong. The buffer is lent for one super frame at a time.
+    fn read(&self, buffer: &mut [u8], info: &mut [u8], parity: &mut [u8]) -> Result<u64, Refused>
+        requires { (length buffer.old ≡ super_bytes) × (length info.old ≡ info_length self.now.n)
+            × (length parity.old ≡ parity_length self.now.n) }
+        ensures { Outcome (late_answer self.now.n self.now.m0 self.now.capture.now)
+            (late_leaves self.now.n self.now.m0 self.now.capture.now info.old parity.old) (answered result) (info.new, parity.new) }
+    {
+        let w = self.tally_words();
+        let b = self.tally_frames(buffer);
+        let seen = read_spec::verdict(w, b)?;
+        self.write_frames(buffer, info, parity);
+        Ok(seen)
     }
-    if here { k } else { k + 1 }
+
+    // ---- words
+
+    // The checks of word w.
+    fn checks(&self, w: usize) -> u16
+        ensures { result ≡ checks_of (word_in self.now.capture.now w) }
+    {
+        checks(self.table, self.capture, w)
+    }
+
+    // A word whose checks are c, repaired.
+    fn repair(&self, word: [u8; 16], c: u16) -> Repaired
+        requires { c ≡ checks_of word }
+        ensures { result ≡ repair_of word }
+    {
+        hamming_table::repair_known(self.positions, word, c)
+    }
+
+    // Whether word w is filler, and not zero.
+    fn is_filled(&self, w: usize, word: [u8; 16]) -> bool
+        ensures { result ≡ (not (holds self.now.n w) && not (all_zero word)) }
+    {
+        !line::holds_element(self.n, w) && !all_zero(word)
+    }
+
+    // Word w is taken in. Where it holds an element and passes its checks there is nothing to find.
+    fn take_word(&self, w: usize, s: WordTally) -> WordTally
+        requires { (w < 2 ^ 32) × (s ≡ words_to self.now.n self.now.capture.now w) }
+        ensures { result ≡ words_to self.now.n self.now.capture.now (w + 1) }
+    {
+        let c = self.checks(w);
+        if c == 0 && line::holds_element(self.n, w) {
+            return s;
+        }
+        let received = line_order::word_in(self.capture, w);
+        let r = self.repair(received, c);
+        let is_beyond = r.found.number() == 4;
+        WordTally {
+            beyond: s.beyond.or(is_beyond.then_some(w as u64)),
+            filler: s.filler.or(self.is_filled(w, r.word).then_some(w as u64)),
+            seen: s.seen + u64::from(r.found.is_found()),
+        }
+    }
+
+    // The pass over all words.
+    fn tally_words(&self) -> WordTally
+        ensures { result ≡ words_to self.now.n self.now.capture.now (words self.now.n) }
+    {
+        let mut s = WordTally {
+            beyond: None,
+            filler: None,
+            seen: 0,
+        };
+        for w in 0..sizes::SUPER_ELEMENTS * self.n + sizes::LONGEST_WAIT {
+            s = self.take_word(w, s);
+        }
+        s
+    }
+
+    // ---- super frames
+
+    // The word of element e, repaired.
+    fn element(&self, e: usize) -> [u8; 16]
+        requires { e < 2 ^ 32 }
+        ensures { result ≡ repaired self.now.capture.now (slot_of e) }
+    {
+        let w = line::slot(e as u32);
+        let c = self.checks(w);
+        let word = line_order::word_in(self.capture, w);
+        if c == 0 {
+            return word;
+        }
+        self.repair(word, c).word
+    }
+
+    // The bytes of super frame f as they were received. Element l has 119 bits: it begins l mod 8 bits before its first whole byte.
+    fn received(&self, f: usize, out: &mut [u8])
+        requires { (f < 8) × (length out.old ≡ super_bytes) }
+        ensures { out.new ≡ pack super_bytes (received_in (repaired self.now.capture.now) f) }
+    {
+        let mut here = self.element(sizes::SUPER_ELEMENTS * f);
+        for l in 0..sizes::SUPER_ELEMENTS {
+            let next = self.element(sizes::SUPER_ELEMENTS * f + (l + 1));
+            let a = 15 * l - l / 8;
+            let e = 15 * (l + 1) - (l + 1) / 8;
+            put_bytes(from_bit(follow(here, next), l % 8), &mut out[a..e]);
+            here = next;
+        }
+    }
+
+    // The same, descrambled.
+    fn frame(&self, f: usize, out: &mut [u8])
+        requires { (f < 8) × (length out.old ≡ super_bytes) }
+        ensures { out.new ≡ frame_of self.now.capture.now f }
+    {
+        self.received(f, out);
+        scrambling::add(self.scrambler, 0, out);
+    }
+
+    // Block b of super frame f, whose bytes are s, is taken in.
+    fn take_block(&self, s: &[u8], f: usize, b: usize, x: BlockTally) -> BlockTally
+        requires { (f < 8) × (b < fec_blocks) }
+        ensures { result ≡ block_taken self.now.m0 s.now f b x }
+    {
+        let t = (sizes::FEC_BLOCKS * f + b) as u64;
+        BlockTally {
+            mbas: x.mbas.or(is_mbas_off(self.m0, s, t, b).then_some(t)),
+            crc: x.crc.or(is_crc_off(self.crcs, s, b).then_some(t)),
+            pad: x.pad,
+        }
+    }
+
+    // The five blocks of super frame f.
+    fn take_blocks(&self, s: &[u8], f: usize, x: BlockTally) -> BlockTally
+        requires { f < 8 }
+        ensures { result ≡ upto (block_taken self.now.m0 s.now f) x fec_blocks }
+    {
+        let mut y = x;
+        for b in 0..sizes::FEC_BLOCKS {
+            y = self.take_block(s, f, b, y);
+        }
+        y
+    }
+
+    // Super frame f is taken in; its bytes go into the buffer lent.
+    fn take_frame(&self, f: usize, x: BlockTally, buffer: &mut [u8]) -> BlockTally
+        requires { (f < 8) × (length buffer.old ≡ super_bytes) × (x ≡ frames_to self.now.m0 self.now.capture.now f) }
+        ensures { result ≡ frames_to self.now.m0 self.now.capture.now (f + 1) }
+    {
+        self.frame(f, buffer);
+        let y = self.take_blocks(buffer, f, x);
+        BlockTally {
+            mbas: y.mbas,
+            crc: y.crc,
+            pad: y.pad.or(is_pad_off(buffer).then_some(f as u64)),
+        }
+    }
+
+    // The pass over all super frames.
+    fn tally_frames(&self, buffer: &mut [u8]) -> BlockTally
+        requires { length buffer.old ≡ super_bytes }
+        ensures { result ≡ frames_to self.now.m0 self.now.capture.now self.now.n }
+    {
+        let mut x = BlockTally {
+            mbas: None,
+            crc: None,
+            pad: None,
+        };
+        for f in 0..self.n {
+            x = self.take_frame(f, x, buffer);
+        }
+        x
+    }
+
+    // The information and the parity of all super frames, one after the other.
+    fn write_frames(&self, buffer: &mut [u8], info: &mut [u8], parity: &mut [u8])
+        requires { (length buffer.old ≡ super_bytes) × (length info.old ≡ info_length self.now.n)
+            × (length parity.old ≡ parity_length self.now.n) }
+        ensures { (info.new ≡ info_of self.now.n (fec_in (repaired self.now.capture.now)))
+            × (parity.new ≡ parity_of self.now.n (fec_in (repaired self.now.capture.now))) }
+    {
+        for f in 0..self.n {
+            let i = sizes::SUPER_INFO_BYTES * f;
+            let p = sizes::SUPER_PARITY_BYTES * f;
+            self.frame(f, buffer);
+            write_blocks(
+                buffer,
+                &mut info[i..i + sizes::SUPER_INFO_BYTES],
+                &mut parity[p..p + sizes::SUPER_PARITY_BYTES],
+            );
+        }
+    }
 }
 
-// ---- words
+// ---- the bytes of a word
 
 // The checks of word w, by the lent table.
-fn checks(t: &[u16; 4096], capture: &[u8], w: usize) -> u16
-    requires { t.now ≡ byte_table }
+fn checks(table: &[u16; 4096], capture: &[u8], w: usize) -> u16
+    requires { table.now ≡ byte_table }
     ensures { result ≡ checks_of (word_in capture.now w) }
 {
-    line_order::checks_in(t, capture, w)
-}
-
-// A word whose checks are c, repaired by the lent table.
-fn repair_word(positions: &[u8; 512], word: [u8; 16], c: u16) -> Repaired
-    requires { (positions.now ≡ position_table) × (c ≡ checks_of word) }
-    ensures { result ≡ repair_of word }
-{
-    hamming_table::repair_known(positions, word, c)
+    line_order::checks_in(table, capture, w)
 }
 
 fn all_zero(word: [u8; 16]) -> bool
     ensures { result ≡ all_zero word }
 {
-    for k in 0..sizes::WORD_BYTES {
-        if word[k] != 0 {
-            return false;
-        }
-    }
-    true
-}
-
-// Whether word w is filler, and not zero.
-fn is_filled(n: usize, w: usize, word: [u8; 16]) -> bool
-    ensures { result ≡ (not (holds n w) && not (all_zero word)) }
-{
-    if line::holds_element(n, w) {
-        return false;
-    }
-    !all_zero(word)
-}
-
-// Whether word w holds an element and its checks c are zero: then there is nothing to find.
-fn is_plain(n: usize, w: usize, c: u16) -> bool
-    ensures { result ≡ (eqb c 0 && holds n w) }
-{
-    c == 0 && line::holds_element(n, w)
-}
-
-fn one_if(b: bool) -> usize
-    ensures { OneIf b result }
-{
-    if b { 1 } else { 0 }
-}
-
-// Word w is taken in.
-fn take_word(
-    t: &[u16; 4096],
-    positions: &[u8; 512],
-    n: usize,
-    capture: &[u8],
-    w: usize,
-    s: WordTally,
-) -> WordTally
-    requires { Tables t.now positions.now × (w < 2 ^ 32) × (s ≡ words_to n capture.now w) }
-    ensures { result ≡ words_to n capture.now (w + 1) }
-{
-    let c = checks(t, capture, w);
-    if is_plain(n, w, c) {
-        return WordTally {
-            beyond: sought(s.beyond, w, false),
-            filler: sought(s.filler, w, false),
-            seen: s.seen,
-        };
-    }
-    let received = line_order::word_in(capture, w);
-    let r = repair_word(positions, received, c);
-    let f = r.found;
-    let word = r.word;
-    WordTally {
-        beyond: sought(s.beyond, w, f.number() == 4),
-        filler: sought(s.filler, w, is_filled(n, w, word)),
-        seen: s.seen + one_if(f.is_found()),
-    }
-}
-
-// The pass over all words.
-fn tally_words(t: &[u16; 4096], positions: &[u8; 512], n: usize, capture: &[u8]) -> WordTally
-    requires { Tables t.now positions.now × (n ≤ most_frames) }
-    ensures { result ≡ words_to n capture.now (words n) }
-{
-    let mut s = WordTally {
-        beyond: 0,
-        filler: 0,
-        seen: 0,
-    };
-    for w in 0..sizes::SUPER_ELEMENTS * n + sizes::LONGEST_WAIT {
-        s = take_word(t, positions, n, capture, w, s);
-    }
-    s
-}
-
-// ---- super frames
-
-// The word of element e, repaired.
-fn element(t: &[u16; 4096], positions: &[u8; 512], capture: &[u8], e: usize) -> [u8; 16]
-    requires { Tables t.now positions.now × (e < 2 ^ 32) }
-    ensures { result ≡ repaired capture.now (slot_of e) }
-{
-    let w = line::slot(e as u32);
-    let c = checks(t, capture, w);
-    let word = line_order::word_in(capture, w);
-    if c == 0 {
-        return word;
-    }
-    let r = repair_word(positions, word, c);
-    r.word
+    word == [0; 16]
 }
 
 // The 119 bits of a, and then the first nine of b in place of the check bits: no byte of a super frame reaches further.
@@ -254,9 +331,7 @@ fn from_bit(v: [u8; 16], i: usize) -> [u8; 16]
     ensures { result ≡ pack word_bytes (from_index (bit_at v) i) }
 {
     let mut w = [0u8; 17];
-    for k in 0..sizes::WORD_BYTES {
-        w[k] = v[k];
-    }
+    w[..sizes::WORD_BYTES].copy_from_slice(&v);
     bits_copy::word_from(&w, i)
 }
 
@@ -266,45 +341,12 @@ fn put_bytes(v: [u8; 16], out: &mut [u8])
     requires { (14 ≤ length out.old) × (length out.old ≤ 15) }
     ensures { out.new ≡ tabulate (length out.old) (λ k. get_or v k 0) }
 {
-    for k in 0..12usize {
-        out[k] = v[k];
-    }
+    out[..12].copy_from_slice(&v[..12]);
     out[12] = v[12];
     out[13] = v[13];
     if 14 < out.len() {
         out[14] = v[14];
     }
-}
-
-// The bytes of super frame f as they were received. Element l has 119 bits: it begins l mod 8 bits before its first whole byte.
-fn received(t: &[u16; 4096], positions: &[u8; 512], capture: &[u8], f: usize, out: &mut [u8])
-    requires { Tables t.now positions.now × (f < 8) × (length out.old ≡ super_bytes) }
-    ensures { out.new ≡ pack super_bytes (received_in (repaired capture.now) f) }
-{
-    let mut here = element(t, positions, capture, sizes::SUPER_ELEMENTS * f);
-    for l in 0..sizes::SUPER_ELEMENTS {
-        let next = element(t, positions, capture, sizes::SUPER_ELEMENTS * f + (l + 1));
-        let a = 15 * l - l / 8;
-        let e = 15 * (l + 1) - (l + 1) / 8;
-        put_bytes(from_bit(follow(here, next), l % 8), &mut out[a..e]);
-        here = next;
-    }
-}
-
-// The same, descrambled.
-fn frame(
-    t: &[u16; 4096],
-    positions: &[u8; 512],
-    scr: &[u8],
-    capture: &[u8],
-    f: usize,
-    out: &mut [u8],
-)
-    requires { Tables t.now positions.now × (scr.now ≡ sequence) × (f < 8) × (length out.old ≡ super_bytes) }
-    ensures { out.new ≡ frame_of capture.now f }
-{
-    received(t, positions, capture, f, out);
-    scrambling::add(scr, 0, out);
 }
 
 // ---- FEC blocks, out of the bytes of a super frame
@@ -319,11 +361,11 @@ fn long_from(s: &[u8], at: usize) -> u32
 }
 
 // Whether the MBAS of block b, which is block t of the capture, is another number than expected.
-fn is_mbas_off(m0: u64, s: &[u8], t: usize, b: usize) -> bool
+fn is_mbas_off(m0: u64, s: &[u8], t: u64, b: usize) -> bool
     requires { b < fec_blocks }
     ensures { result ≡ mbas_off m0 s.now t b }
 {
-    bits::byte_from(s, sizes::FEC_BITS * b + sizes::MBAS_FROM) / 4 != line::mbas(m0, t as u64)
+    bits::byte_from(s, sizes::FEC_BITS * b + sizes::MBAS_FROM) / 4 != line::mbas(m0, t)
 }
 
 // The CRC of the information of block b.
@@ -356,83 +398,6 @@ fn is_pad_off(s: &[u8]) -> bool
     false
 }
 
-// Block b of super frame f is taken in.
-fn take_block(crcs: &[u32; 256], m0: u64, s: &[u8], f: usize, b: usize, x: BlockTally) -> BlockTally
-    requires { (crcs.now ≡ entries) × (f < 8) × (b < fec_blocks) }
-    ensures { result ≡ block_taken m0 s.now f b x }
-{
-    let t = sizes::FEC_BLOCKS * f + b;
-    BlockTally {
-        mbas: sought(x.mbas, t, is_mbas_off(m0, s, t, b)),
-        crc: sought(x.crc, t, is_crc_off(crcs, s, b)),
-        pad: x.pad,
-    }
-}
-
-// The five blocks of super frame f.
-fn take_blocks(crcs: &[u32; 256], m0: u64, s: &[u8], f: usize, x: BlockTally) -> BlockTally
-    requires { (crcs.now ≡ entries) × (f < 8) }
-    ensures { result ≡ upto (block_taken m0 s.now f) x fec_blocks }
-{
-    let mut y = x;
-    for b in 0..sizes::FEC_BLOCKS {
-        y = take_block(crcs, m0, s, f, b, y);
-    }
-    y
-}
-
-// Super frame f is taken in; its bytes go into the buffer lent.
-fn take_frame(
-    t: &[u16; 4096],
-    positions: &[u8; 512],
-    scr: &[u8],
-    crcs: &[u32; 256],
-    m0: u64,
-    capture: &[u8],
-    f: usize,
-    x: BlockTally,
-    buffer: &mut [u8],
-) -> BlockTally
-    requires { Tables t.now positions.now × (scr.now ≡ sequence) × (crcs.now ≡ entries) × (f < 8) × (length buffer.old ≡ super_bytes)
-        × (x ≡ frames_to m0 capture.now f) }
-    ensures { result ≡ frames_to m0 capture.now (f + 1) }
-{
-    frame(t, positions, scr, capture, f, buffer);
-    let y = take_blocks(crcs, m0, buffer, f, x);
-    BlockTally {
-        mbas: y.mbas,
-        crc: y.crc,
-        pad: sought(y.pad, f, is_pad_off(buffer)),
-    }
-}
-
-// The pass over all super frames.
-fn tally_frames(
-    t: &[u16; 4096],
-    positions: &[u8; 512],
-    scr: &[u8],
-    n: usize,
-    m0: u64,
-    capture: &[u8],
-    buffer: &mut [u8],
-) -> BlockTally
-    requires { Tables t.now positions.now × (scr.now ≡ sequence) × (n ≤ most_frames) × (length buffer.old ≡ super_bytes) }
-    ensures { result ≡ frames_to m0 capture.now n }
-{
-    let crcs = crc::table();
-    let mut x = BlockTally {
-        mbas: 0,
-        crc: 0,
-        pad: 0,
-    };
-    for f in 0..n {
-        x = take_frame(t, positions, scr, &crcs, m0, capture, f, x, buffer);
-    }
-    x
-}
-
-// ---- what is given back
-
 // The information and the parity of a super frame, out of its bytes.
 fn write_blocks(s: &[u8], info: &mut [u8], parity: &mut [u8])
     requires { (length info.old ≡ info_length 1) × (length parity.old ≡ parity_length 1) }
@@ -447,34 +412,6 @@ fn write_blocks(s: &[u8], info: &mut [u8], parity: &mut [u8])
             s,
             sizes::FEC_BITS * b + sizes::PARITY_FROM,
             &mut parity[p..p + sizes::PARITY_BYTES],
-        );
-    }
-}
-
-// All super frames, one after the other.
-fn write_frames(
-    t: &[u16; 4096],
-    positions: &[u8; 512],
-    scr: &[u8],
-    n: usize,
-    capture: &[u8],
-    buffer: &mut [u8],
-    info: &mut [u8],
-    parity: &mut [u8],
-)
-    requires { Tables t.now positions.now × (scr.now ≡ sequence) × (n ≤ most_frames) × (length buffer.old ≡ super_bytes)
-        × (length info.old ≡ info_length n) × (length parity.old ≡ parity_length n) }
-    ensures { (info.new ≡ info_of n (fec_in (repaired capture.now)))
-        × (parity.new ≡ parity_of n (fec_in (repaired capture.now))) }
-{
-    for f in 0..n {
-        let i = sizes::SUPER_INFO_BYTES * f;
-        let p = sizes::SUPER_PARITY_BYTES * f;
-        frame(t, positions, scr, capture, f, buffer);
-        write_blocks(
-            buffer,
-            &mut info[i..i + sizes::SUPER_INFO_BYTES],
-            &mut parity[p..p + sizes::SUPER_PARITY_BYTES],
         );
     }
 }

@@ -1,5 +1,6 @@
 -- The tests of FEC blocks and pad: by the bytes of a super frame they are those of the capture, and five blocks more. Assumes nothing.
 use Prim.Native.Nat.{ℕ, zero, suc, ◌+◌, ◌*◌, ◌/◌, ◌%◌, ◌≤◌, ◌<◌}
+use Rattle.std.specs.Prelude.{Option, None}
 use mathlib.Core.Bool.{Bool, true, false, not}
 use mathlib.Core.Path.{◌≡◌, refl, sym, ap, ap₂, ◌∙◌}
 use mathlib.Core.List.{List}
@@ -19,7 +20,7 @@ use Rattle.sizes.specs.Sizes.{info_bits, crc_bits, mbas_bits, mbas_from, fec_bit
 use Rattle.line.specs.Fec.{mbas_of}
 use Rattle.line.specs.Words.{super_in, fec_in}
 use Rattle.read_spec.specs.Read.{repaired, mbas_differs, crc_differs, pad_differs}
-use Rattle.read_spec.specs.Steps.{sought_of, frame_of, mbas_off, crc_off, pad_off, block_taken, frames_to}
+use Rattle.read_spec.specs.Steps.{first_found, sought_of, frame_of, mbas_off, crc_off, pad_off, block_taken, frames_to}
 use Rattle.read_spec.specs.declared.BlockTally.{BlockTally}
 use Rattle.read_spec.proofs.Searching.{first_more}
 use Rattle.read_spec.proofs.Places.{frame_bit, frame_fec}
@@ -52,9 +53,9 @@ pad_same cap f =
 -- k blocks of super frame f
 abbrev blocks_to : ℕ → List ℕ → ℕ → ℕ → BlockTally
 blocks_to m0 cap f k = record {
-  mbas = first (mbas_differs m0 cap) (fec_blocks * f + k);
-  crc = first (crc_differs cap) (fec_blocks * f + k);
-  pad = first (pad_differs cap) f;
+  mbas = first_found (mbas_differs m0 cap) (fec_blocks * f + k);
+  crc = first_found (crc_differs cap) (fec_blocks * f + k);
+  pad = first_found (pad_differs cap) f;
 }
 
 block_more : (m0 : ℕ) (cap : List ℕ) (f k : ℕ) → k < fec_blocks → block_taken m0 (frame_of cap f) f k (blocks_to m0 cap f k) ≡ blocks_to m0 cap f (k + 1)
@@ -62,11 +63,11 @@ unfolding block_taken
 block_more m0 cap f k h =
     let t = fec_blocks * f + k in
     let next : 5 * f + k + 1 ≡ 5 * f + (k + 1) = omega arith in
-    let a : sought_of (first (mbas_differs m0 cap) t) t (mbas_off m0 (frame_of cap f) t k) ≡ first (mbas_differs m0 cap) (5 * f + (k + 1)) = ap
-    (sought_of (first (mbas_differs m0 cap) t) t) (mbas_same m0 cap f k h) ∙ first_more (mbas_differs m0 cap) t ∙ ap (first (mbas_differs m0 cap)) next in
-    let b : sought_of (first (crc_differs cap) t) t (crc_off (frame_of cap f) k) ≡ first (crc_differs cap) (5 * f + (k + 1)) = ap
-    (sought_of (first (crc_differs cap) t) t) (crc_same cap f k h) ∙ first_more (crc_differs cap) t ∙ ap (first (crc_differs cap)) next in
-    ap₂ (λ (x y : ℕ). record { mbas = x; crc = y; pad = first (pad_differs cap) f }) a b
+    let a : sought_of (first_found (mbas_differs m0 cap) t) t (mbas_off m0 (frame_of cap f) t k) ≡ first_found (mbas_differs m0 cap) (5 * f + (k + 1)) = ap
+    (sought_of (first_found (mbas_differs m0 cap) t) t) (mbas_same m0 cap f k h) ∙ first_more (mbas_differs m0 cap) t ∙ ap (first_found (mbas_differs m0 cap)) next in
+    let b : sought_of (first_found (crc_differs cap) t) t (crc_off (frame_of cap f) k) ≡ first_found (crc_differs cap) (5 * f + (k + 1)) = ap
+    (sought_of (first_found (crc_differs cap) t) t) (crc_same cap f k h) ∙ first_more (crc_differs cap) t ∙ ap (first_found (crc_differs cap)) next in
+    ap₂ (λ (x y : Option ℕ). record { mbas = x; crc = y; pad = first_found (pad_differs cap) f }) a b
 
 blocks_none : (m0 : ℕ) (cap : List ℕ) (f : ℕ) → frames_to m0 cap f ≡ blocks_to m0 cap f 0
 blocks_none m0 cap f = let e : 5 * f + 0 ≡ 5 * f = omega arith in rw e
@@ -78,19 +79,19 @@ blocks_taken m0 cap f (suc k) h =
     ap (block_taken m0 (frame_of cap f) f k) (blocks_taken m0 cap f k (omega arith)) ∙ block_more m0 cap f k h ∙ ap (blocks_to m0 cap f) (omega arith)
 
 -- super frame f is taken in
-pub frame_more : (m0 : ℕ) (cap s : List ℕ) (f : ℕ) (x y : BlockTally) (pad : ℕ) → s ≡ frame_of cap f → x ≡ frames_to m0 cap f → y ≡ upto (block_taken m0 s f) x 5
+pub frame_more : (m0 : ℕ) (cap s : List ℕ) (f : ℕ) (x y : BlockTally) (pad : Option ℕ) → s ≡ frame_of cap f → x ≡ frames_to m0 cap f → y ≡ upto (block_taken m0 s f) x 5
     → pad ≡ sought_of y.pad f (pad_off s) → ◌≡◌ {A = BlockTally} (record { mbas = y.mbas; crc = y.crc; pad = pad }) (frames_to m0 cap (f + 1))
 frame_more m0 cap s f x y pad es ex ey ep =
     let z : y ≡ blocks_to m0 cap f 5 = ey ∙ ap₂ (λ (l : List ℕ) (t : BlockTally). upto (block_taken m0 l f) t 5) es ex ∙ blocks_taken m0 cap f 5 (omega arith) in
-    let p : pad ≡ first (pad_differs cap) (f + 1) = ep ∙ ap₂ (λ (l : List ℕ) (t : BlockTally). sought_of t.pad f (pad_off l)) es z
-    ∙ ap (sought_of (first (pad_differs cap) f) f) (pad_same cap f) ∙ first_more (pad_differs cap) f in
+    let p : pad ≡ first_found (pad_differs cap) (f + 1) = ep ∙ ap₂ (λ (l : List ℕ) (t : BlockTally). sought_of t.pad f (pad_off l)) es z
+    ∙ ap (sought_of (first_found (pad_differs cap) f) f) (pad_same cap f) ∙ first_more (pad_differs cap) f in
     let next : 5 * f + 5 ≡ 5 * (f + 1) = omega arith in
-    let a : y.mbas ≡ first (mbas_differs m0 cap) (5 * (f + 1)) = ap (λ (t : BlockTally). t.mbas) z ∙ ap (first (mbas_differs m0 cap)) next in
-    let b : y.crc ≡ first (crc_differs cap) (5 * (f + 1)) = ap (λ (t : BlockTally). t.crc) z ∙ ap (first (crc_differs cap)) next in
+    let a : y.mbas ≡ first_found (mbas_differs m0 cap) (5 * (f + 1)) = ap (λ (t : BlockTally). t.mbas) z ∙ ap (first_found (mbas_differs m0 cap)) next in
+    let b : y.crc ≡ first_found (crc_differs cap) (5 * (f + 1)) = ap (λ (t : BlockTally). t.crc) z ∙ ap (first_found (crc_differs cap)) next in
     rw (a, b, p)
 
-pub frames_none : (m0 : ℕ) (cap : List ℕ) → ◌≡◌ {A = BlockTally} (record { mbas = 0; crc = 0; pad = 0 }) (frames_to m0 cap 0)
-unfolding first
+pub frames_none : (m0 : ℕ) (cap : List ℕ) → ◌≡◌ {A = BlockTally} (record { mbas = None; crc = None; pad = None }) (frames_to m0 cap 0)
+unfolding first_found first
 frames_none m0 cap = refl
 
 -- ---- the pad, a byte at a time

@@ -1,38 +1,81 @@
 -- The table of reading: its answer is exact, and the code comes to it by numbers 1 and 2 first, then the two tallies. Assumes nothing.
-use Prim.Native.Nat.{ℕ}
-use mathlib.Core.Bool.{true}
+use Prim.Native.Nat.{ℕ, ◌*◌}
+use mathlib.Core.Bool.{Bool, true, false, cond}
 use mathlib.Core.Path.{◌≡◌, refl, sym, ap, ap₂, ◌∙◌}
 use mathlib.Core.List.{List, [], ◌∷◌}
+use lib.Dec.{ltb}
 use lib.ListN.{length}
-use Rattle.prelude.specs.Loops.{count}
-use Rattle.answer.specs.Numbers.{all_done, wrong_length}
-use Rattle.answer.specs.Rows.{Row, done, wrong, FirstFault, row_number, places_of, holds_at, first_of, answer_of, rising}
+use Rattle.std.specs.Prelude.{Option, Some, None, Result, Ok, Err, IfOk, IfErr}
+use Rattle.std.proofs.lemmas.Result.{IfOk-at_ok, IfErr-at_err}
+use Rattle.prelude.specs.Loops.{first, count}
+use Rattle.answer.specs.Numbers.{all_done, wrong_length, beyond_repair, filler_not_zero, wrong_mbas, wrong_crc, pad_not_zero}
+use Rattle.answer.specs.Rows.{Row, done, refused, wrong, FirstFault, row_number, places_of, holds_at, first_of, answer_of, rising}
 use Rattle.answer.specs.Demand1.{Exactly, Demand1}
 use Rattle.answer.specs.Outcomes.{Outcome, written}
 use Rattle.answer.specs.Steps.{NoFault, RowPassed, Passed}
 use Rattle.answer.specs.declared.Answer.{Answer}
+use Rattle.answer.specs.Refusals.{number_of, refused_at, found_at, answered}
+use Rattle.answer.specs.declared.refusal.Refusal.{Refusal}
+use Rattle.answer.specs.declared.refusal.Refused.{Refused}
+use Rattle.answer.proofs.Results.{same_numbers}
 use Rattle.answer.proofs.Table.{exactly, demand_1}
 use Rattle.answer.proofs.Buffers.{which_buffer}
 use Rattle.answer.proofs.Turns.{in_turn_law, passed, early_refused, early_passed, right_length}
 use Rattle.answer.proofs.Meets.{meets_done, meets_refused}
-use Rattle.sizes.specs.Sizes.{words, info_length, parity_length, capture_length}
+use Rattle.sizes.specs.Sizes.{fec_blocks, words, info_length, parity_length, capture_length}
 use Rattle.line.specs.Fec.{mbas_allowed}
 use Rattle.line.specs.Frames.{info_of, parity_of}
 use Rattle.line.specs.Words.{fec_in}
 use Rattle.line.proofs.CaptureLaws.{frames_in}
-use Rattle.read_spec.specs.Read.{repaired, is_seen, read_early_rows, read_late_rows, read_rows, read_answer, given, read_leaves}
-use Rattle.read_spec.specs.Steps.{AcceptedRead, words_to, frames_to, verdict_of, late_answer, late_leaves}
+use Rattle.read_spec.specs.Read.{repaired, is_beyond, is_filled, mbas_differs, crc_differs, pad_differs, is_seen, read_early_rows, read_late_rows, read_rows, read_answer, given, read_leaves}
+use Rattle.read_spec.specs.Steps.{AcceptedRead, first_found, refused_where, words_to, frames_to, verdict_of, late_answer, late_leaves}
 use Rattle.read_spec.specs.declared.WordTally.{WordTally}
 use Rattle.read_spec.specs.declared.BlockTally.{BlockTally}
+
+-- a search in the tally found nothing, and the call goes on
+pub none_found : (r : Refusal) (x : Option ℕ) {u : Unit {0}} → Ok u ≡ found_at r x → x ≡ None
+none_found r x h = IfOk-at_ok (λ _. x ≡ None) (sym h) (shown x)
+  where
+    shown : (y : Option ℕ) → IfOk (found_at r y) (λ _. y ≡ None)
+    shown (Some p) = tt
+    shown None = refl
+
+-- it found a place, and the call is refused there
+pub place_found : (r : Refusal) (x : Option ℕ) (next : Answer) {e : Refused} → Err e ≡ found_at r x → answered (Err e) ≡ refused_where (number_of r) x next
+place_found r x next h = IfErr-at_err (λ e. answered (Err e) ≡ refused_where (number_of r) x next) (sym h) (shown x)
+  where
+    shown : (y : Option ℕ) → IfErr (found_at r y) (λ e. answered (Err e) ≡ refused_where (number_of r) y next)
+    shown (Some p) = refl
+    shown None = tt
 
 read_early_rise : (N m0 cap info par : ℕ) → rising 0 (read_early_rows N m0 cap info par) ≡ true
 unfolding rising read_early_rows row_number
 read_early_rise N m0 cap info par = refl
 
+-- a row's search in the tally, as the row itself
+row_found : (k : ℕ) (p : ℕ → Bool) (n : ℕ) {x y : Answer} → x ≡ y → cond (ltb (first p n) n) (refused k (first p n)) x ≡ refused_where k (first_found p n) y
+unfolding first_found
+row_found k p n {x} {y} e = by (ltb (first p n) n)
+  where
+    by : (b : Bool) → cond b (refused k (first p n)) x ≡ refused_where k (cond b (Some (first p n)) None) y
+    by true = refl
+    by false = e
+
 -- the two tallies decide as the later rows do
 tallied : (N m0 : ℕ) (cap : List ℕ) → answer_of (read_late_rows N m0 cap) (count (is_seen cap) (words N)) ≡ late_answer N m0 cap
 unfolding read_late_rows answer_of first_of row_number places_of holds_at verdict_of
-tallied N m0 cap = refl
+tallied N m0 cap =
+    row_found beyond_repair (is_beyond cap) (words N)
+    (row_found filler_not_zero (is_filled N cap) (words N)
+    (row_found wrong_mbas (mbas_differs m0 cap) (fec_blocks * N)
+    (row_found wrong_crc (crc_differs cap) (fec_blocks * N)
+    (row_found pad_not_zero (pad_differs cap) N refl))))
+
+-- what is refused is not done
+pub not_done : (r : Refused) → (answered (Err r)).number ≡ all_done → ⊥
+not_done r z =
+    let e : ◌≡◌ {A = Result ℕ Refused} (Err (refused_at r.refusal 0)) (Ok 0) = same_numbers (ap (λ (n : ℕ). refused n 0) z) in
+    IfErr-at_err (λ _. ⊥) (sym e) tt
 
 module _ (N m0 : ℕ) (cap info par : List ℕ) where
   abbrev rows : List Row
@@ -106,9 +149,9 @@ module _ (N m0 : ℕ) (cap info par : List ℕ) where
 -- ---- what the code has found after the two passes
 
 module _ (N m0 : ℕ) (cap info par : List ℕ) (w : WordTally) (b : BlockTally) (r : Answer)
-    (ew : w ≡ words_to N cap (words N)) (eb : b ≡ frames_to m0 cap N) (er : r ≡ verdict_of N w b) where
+    (ew : w ≡ words_to N cap (words N)) (eb : b ≡ frames_to m0 cap N) (er : r ≡ verdict_of w b) where
   told : r ≡ late_answer N m0 cap
-  told = er ∙ ap₂ (verdict_of N) ew eb
+  told = er ∙ ap₂ verdict_of ew eb
 
   pub late_done : (i p : List ℕ) → r.number ≡ all_done → i ≡ info_of N (fec_in (repaired cap)) → p ≡ parity_of N (fec_in (repaired cap))
       → Outcome (late_answer N m0 cap) (late_leaves N m0 cap info par) r (i, p)

@@ -1,17 +1,18 @@
 -- What the small functions make of bytes: nine bits, thirty-two bits, copied bits and their CRC. Assumes nothing.
 use Prim.Native.Nat.{ℕ, ◌+◌, ◌*◌, ◌/◌, ◌%◌, ◌≤◌, ◌<◌}
-use mathlib.Core.Path.{◌≡◌, sym, ap, ap₂, ◌∙◌}
-use mathlib.Core.List.{List}
+use mathlib.Core.Path.{◌≡◌, refl, sym, ap, ap₂, ◌∙◌}
+use mathlib.Core.List.{List, [], ◌∷◌, ◌++◌}
 use mathlib.Core.Logic.{⊎_elim}
 use native.Mathlib.Nat.{add_assoc, eq-or-lt_of_le}
 use native.Mathlib.Omega.{arith}
 use lib.Dec.{lit<}
-use lib.ListN.{length, get_or, get_or-eq_default}
+use lib.ListN.{length, get_or, take, drop, length-take, length-drop, length-append, get_or-eq_default}
+use Rattle.std.proofs.lemmas.List.{get_or-take}
 use Rattle.sizes.specs.Sizes.{word_bytes, check_bits}
-use Rattle.prelude.specs.Lists.{from_index}
+use Rattle.prelude.specs.Lists.{tabulate, from_index}
 use Rattle.bits.specs.Bits.{num, digit, bit_of, bit_at, byte_of, pack, Bits, Bytes}
 use Rattle.prelude.proofs.Common.{by_bound}
-use Rattle.prelude.proofs.Lists.{get_d_tabulate, get_d_past, Filled, filled_at, filled_here}
+use Rattle.prelude.proofs.Lists.{get_d_tabulate, get_d_past, Filled, filled_at, filled_here, is_table}
 use Rattle.bits.proofs.Numbers.{num_ext, num_lt, num_split, num_front}
 use Rattle.bits.proofs.Packing.{bit_of_lt, num-bit_of, bit_of-packs, length-packs, packs_ext}
 use Rattle.crc.specs.Crc.{crc_of}
@@ -42,6 +43,21 @@ zero_byte_behind v w d i h len e z =
     by : (k : ℕ) → k ≤ word_bytes → get_or w k 0 ≡ get_or v k 0
     by k m =
         ⊎_elim (λ q. rw q (filled_here 0 e ∙ z ∙ sym (get_or-eq_default v 0 (omega arith)))) (λ l. filled_at 0 e l) (eq-or-lt_of_le m)
+
+pub take_all : {k : ℕ} (v : List ℕ) → length v ≡ k → take k v ≡ v
+take_all v e = rw (← e) (every v)
+  where
+    every : (s : List ℕ) → take (length s) s ≡ s
+    every [] = refl
+    every (x ∷ s) = ap (λ (l : List ℕ). x ∷ l) (every s)
+
+-- the first k elements of v, copied to the front of a buffer
+pub front_copied : (k : ℕ) (v : List ℕ) {d front : List ℕ} → front ≡ take k v → k ≤ length v → k ≤ length d
+    → Filled k (λ j. get_or v j 0) d (front ++ drop k d)
+front_copied k v {d} {front} e n h =
+    let long : length front ≡ k = rw e (simp length-take (omega arith)) in
+    let t : front ≡ tabulate k (λ j. get_or v j 0) = is_table 0 k (λ j. get_or v j 0) front long (λ j l. rw e (get_or-take k v j 0 l)) in
+    record { within = h; len = simp (length-append, length-drop) (omega (arith, long)); is = ap (λ (l : List ℕ). l ++ drop k d) t }
 
 -- thirty-two bits, out of the first four bytes of the bits from a on
 pub long_of : (f : ℕ → ℕ) (a : ℕ) (w : List ℕ) → w ≡ pack word_bytes (from_index f a)

@@ -1,6 +1,6 @@
 -- The parts in which the code reads a capture: what its private functions are asked and answer. The laws (`proofs/`) say that together
 -- they are `specs/Read`. Assumes nothing: these are definitions.
-use Rattle.std.specs.Prelude.{ℕ, ◌+◌, ◌-◌, ◌*◌, ◌/◌, ◌%◌, ◌≤◌, ◌<◌, Bool, not, cond, ◌≡◌, List, ltb, eqb, length}
+use Rattle.std.specs.Prelude.{ℕ, Option, Some, None, ◌+◌, ◌-◌, ◌*◌, ◌/◌, ◌%◌, ◌≤◌, ◌<◌, Bool, not, cond, ◌≡◌, List, ltb, eqb, length}
 use Rattle.prelude.specs.Lists.{from_index}
 use Rattle.bits.specs.Bits.{num, bit_at, pack}
 use Rattle.prelude.specs.Loops.{first, count}
@@ -43,21 +43,22 @@ sequence_bytes = super_bytes + 1
 abbrev pub sequence : List ℕ
 sequence = pack sequence_bytes o
 
--- ---- a search that goes on to the end: x is the first place picked among k places, or k where there is none, and place k is taken in
+-- ---- a search that goes on to the end
 
-unfoldable pub sought_of : ℕ → ℕ → Bool → ℕ
-sought_of x k here = cond (ltb x k) x (cond here k (k + 1))
+-- the first of k places that p picks, if one is picked
+unfoldable pub first_found : (ℕ → Bool) → ℕ → Option ℕ
+first_found p k = cond (ltb (first p k) k) (Some (first p k)) None
+
+-- x is what was found among k places, and place k is taken in
+abbrev pub sought_of : Option ℕ → ℕ → Bool → Option ℕ
+sought_of (Some p) k here = Some p
+sought_of None k here = cond here (Some k) None
 
 -- ---- words
 
--- a Bool as a number to add
-pub record OneIf (b : Bool) (r : ℕ) : Type 0 where
-  pub is : r ≡ cond b 1 0
-  pub small : r < 2
-
 -- the first k words: the first beyond repair, the first filler that is not zero, how many have checks that are not zero
 abbrev pub words_to : ℕ → List ℕ → ℕ → WordTally
-words_to N cap k = record { beyond = first (is_beyond cap) k; filler = first (is_filled N cap) k; seen = count (is_seen cap) k }
+words_to N cap k = record { beyond = first_found (is_beyond cap) k; filler = first_found (is_filled N cap) k; seen = count (is_seen cap) k }
 
 -- ---- a super frame in bytes
 
@@ -98,9 +99,9 @@ block_taken m0 s f b x = record {
 -- the first f super frames: the first FEC block with another MBAS, the first with a wrong CRC, the first super frame whose pad is not zero
 abbrev pub frames_to : ℕ → List ℕ → ℕ → BlockTally
 frames_to m0 cap f = record {
-  mbas = first (mbas_differs m0 cap) (fec_blocks * f);
-  crc = first (crc_differs cap) (fec_blocks * f);
-  pad = first (pad_differs cap) f;
+  mbas = first_found (mbas_differs m0 cap) (fec_blocks * f);
+  crc = first_found (crc_differs cap) (fec_blocks * f);
+  pad = first_found (pad_differs cap) f;
 }
 
 -- bit j of the information, and of the parity, of the super frame with the bytes s
@@ -112,18 +113,23 @@ parity_in s j = bit_at s (fec_bits * (j / parity_bits) + (parity_from + j % pari
 
 -- ---- numbers 4 to 8, from the two tallies: the smallest number, at its first place
 
-unfoldable pub verdict_of : ℕ → WordTally → BlockTally → Answer
-verdict_of N w b =
-    cond (ltb w.beyond (words N)) (refused beyond_repair w.beyond)
-    (cond (ltb w.filler (words N)) (refused filler_not_zero w.filler)
-    (cond (ltb b.mbas (fec_blocks * N)) (refused wrong_mbas b.mbas)
-    (cond (ltb b.crc (fec_blocks * N)) (refused wrong_crc b.crc)
-    (cond (ltb b.pad N) (refused pad_not_zero b.pad)
+-- where a search found a place the call is refused there, else what comes next answers
+abbrev pub refused_where : ℕ → Option ℕ → Answer → Answer
+refused_where k (Some p) next = refused k p
+refused_where k None next = next
+
+unfoldable pub verdict_of : WordTally → BlockTally → Answer
+verdict_of w b =
+    refused_where beyond_repair w.beyond
+    (refused_where filler_not_zero w.filler
+    (refused_where wrong_mbas b.mbas
+    (refused_where wrong_crc b.crc
+    (refused_where pad_not_zero b.pad
     (done w.seen)))))
 
 -- the answer of a call whose numbers and lengths are right
 abbrev pub late_answer : ℕ → ℕ → List ℕ → Answer
-late_answer N m0 cap = verdict_of N (words_to N cap (words N)) (frames_to m0 cap N)
+late_answer N m0 cap = verdict_of (words_to N cap (words N)) (frames_to m0 cap N)
 
 abbrev pub late_leaves : ℕ → ℕ → List ℕ → List ℕ → List ℕ → List ℕ × List ℕ
 late_leaves N m0 cap info par = written (late_answer N m0 cap) (info_of N (fec_in (repaired cap)), parity_of N (fec_in (repaired cap))) (info, par)
