@@ -2,8 +2,8 @@
 -- pass here. Assumes nothing.
 use mathlib.Core.Path.{◌≡◌}
 use Rattle.prelude.proofs.Common.{only}
-use Rattle.hamming.proofs.number.Reads as number
-use Rattle.hamming.proofs.is_found.Reads as is_found
+use Rattle.hamming.proofs.Found.number.Reads as number
+use Rattle.hamming.proofs.Found.is_found.Reads as is_found
 use Rattle.hamming.proofs.checks.Reads as checks
 use Rattle.hamming.proofs.join.Reads as join
 use Rattle.hamming.proofs.encode.Reads as encode

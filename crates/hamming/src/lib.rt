@@ -11,38 +11,40 @@ ghost use Rattle.hamming.specs.Steps.{byte_sum, found_of};
 ghost use Rattle.hamming.specs.Repair.{repair_at, repair_of, found_number};
 
 // What repair found: nothing, the bit that it flipped back, or more than it can repair.
-#[derive(Clone, Copy)]
+#[derive(Clone, Copy, Debug, PartialEq, Eq)]
 pub enum Found {
     Clean,
     Flipped(u8),
     Beyond,
 }
 
-#[derive(Clone, Copy)]
+#[derive(Clone, Copy, Debug, PartialEq, Eq)]
 pub struct Repaired {
     pub word: [u8; 16],
     pub found: Found,
 }
 
-// The refusal that a repair comes to, by document 01's numbers.
-pub fn number(found: Found) -> u8
-    ensures { result ≡ found_number found }
-{
-    match found {
-        Found::Clean => 0,
-        Found::Flipped(_) => 0,
-        Found::Beyond => 4,
+impl Found {
+    // The refusal that a repair comes to, by document 01's numbers.
+    pub fn number(self) -> u8
+        ensures { result ≡ found_number self }
+    {
+        match self {
+            Found::Clean => 0,
+            Found::Flipped(_) => 0,
+            Found::Beyond => 4,
+        }
     }
-}
 
-// Whether the checks were not zero: a repaired check bit counts too.
-pub fn is_found(found: Found) -> bool
-    ensures { result ≡ found_of found }
-{
-    match found {
-        Found::Clean => false,
-        Found::Flipped(_) => true,
-        Found::Beyond => true,
+    // Whether the checks were not zero: a repaired check bit counts too.
+    pub fn is_found(self) -> bool
+        ensures { result ≡ found_of self }
+    {
+        match self {
+            Found::Clean => false,
+            Found::Flipped(_) => true,
+            Found::Beyond => true,
+        }
     }
 }
 

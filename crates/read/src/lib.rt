@@ -201,9 +201,9 @@ fn take_word(
     let f = r.found;
     let word = r.word;
     WordTally {
-        beyond: sought(s.beyond, w, hamming::number(f) == 4),
+        beyond: sought(s.beyond, w, f.number() == 4),
         filler: sought(s.filler, w, is_filled(n, w, word)),
-        seen: s.seen + one_if(hamming::is_found(f)),
+        seen: s.seen + one_if(f.is_found()),
     }
 }
 

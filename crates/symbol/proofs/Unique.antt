@@ -4,8 +4,8 @@ use mathlib.Core.Path.{◌≡◌}
 use Rattle.prelude.proofs.Common.{only}
 use Rattle.symbol.proofs.level.Reads as level
 use Rattle.symbol.proofs.pair.Reads as pair
-use Rattle.symbol.proofs.symbol_of.Reads as symbol-of
-use Rattle.symbol.proofs.byte_of.Reads as byte_of
+use Rattle.symbol.proofs.SymbolFromU8.from.Reads as symbol-of
+use Rattle.symbol.proofs.U8FromSymbol.from.Reads as byte_of
 
 pub one_level : (κs : _) (a : _) (x y : _) (s t : _) → level.Post κs a x s → level.Post κs a y t → x ≡ y
 one_level κs a x y s t p q = only p q

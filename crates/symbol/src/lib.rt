@@ -5,7 +5,7 @@ ghost use Rattle.std.specs.Prelude.{◌≡◌, ◌/◌, ◌%◌};
 ghost use Rattle.symbol.specs.Levels.{level_of, pair_of, symbol_of, byte_of_symbol};
 
 // The four levels of a symbol, in the order of its bits: in-phase and quadrature of X, then of Y.
-#[derive(Clone, Copy)]
+#[derive(Clone, Copy, Debug, PartialEq, Eq)]
 pub struct Symbol {
     pub xi: i8,
     pub xq: i8,
@@ -38,20 +38,24 @@ pub fn pair(v: i8) -> u8
 }
 
 // The symbol of a byte.
-pub fn symbol_of(x: u8) -> Symbol
-    ensures { result ≡ symbol_of x }
-{
-    Symbol {
-        xi: level(x / 64),
-        xq: level(x / 16),
-        yi: level(x / 4),
-        yq: level(x),
+impl From<u8> for Symbol {
+    ghost from_gives = { λ x s. s ≡ symbol_of x };
+
+    fn from(x: u8) -> Symbol {
+        Symbol {
+            xi: level(x / 64),
+            xq: level(x / 16),
+            yi: level(x / 4),
+            yq: level(x),
+        }
     }
 }
 
 // The byte of a symbol.
-pub fn byte_of(s: Symbol) -> u8
-    ensures { result ≡ byte_of_symbol s }
-{
-    64 * pair(s.xi) + 16 * pair(s.xq) + 4 * pair(s.yi) + pair(s.yq)
+impl From<Symbol> for u8 {
+    ghost from_gives = { λ s x. x ≡ byte_of_symbol s };
+
+    fn from(s: Symbol) -> u8 {
+        64 * pair(s.xi) + 16 * pair(s.xq) + 4 * pair(s.yi) + pair(s.yq)
+    }
 }

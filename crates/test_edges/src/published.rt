@@ -53,7 +53,7 @@ fn level<W: Write>(out: &mut W, v: i8) -> io::Result<()> {
 fn table_12_row<W: Write>(out: &mut W, n: u8) -> io::Result<()> {
     test_print::text(out, b"Table 12: ")?;
     test_print::four_bits(out, n)?;
-    let s = symbol::symbol_of(n % 16 * 17);
+    let s = symbol::Symbol::from(n % 16 * 17);
     level(out, s.xi)?;
     level(out, s.xq)?;
     level(out, s.yi)?;

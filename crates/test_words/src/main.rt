@@ -48,7 +48,7 @@ fn print_level<W: Write>(out: &mut W, v: i8) -> io::Result<()> {
 // A row of Table 12: four bits, and the levels that they have in the X and in the Y polarization.
 fn print_row<W: Write>(out: &mut W, n: u8) -> io::Result<()> {
     test_print::four_bits(out, n)?;
-    let s = symbol::symbol_of(n % 16 * 17);
+    let s = symbol::Symbol::from(n % 16 * 17);
     print_level(out, s.xi)?;
     print_level(out, s.xq)?;
     print_level(out, s.yi)?;

@@ -1,6 +1,6 @@
--- `symbol::symbol_of` meets its contract: four levels make the symbol (`symbol_is`). Assumes nothing.
+-- `symbol::Symbol::from` meets its contract: four levels make the symbol (`symbol_is`). Assumes nothing.
 use Rattle.symbol.proofs.Amplitudes.{symbol_is}
-use Rattle.symbol.proofs.symbol_of.Goals as goal
+use Rattle.symbol.proofs.SymbolFromU8.from.Goals as goal
 
 pub returns : goal.returns
 returns c = symbol_is c.args.x

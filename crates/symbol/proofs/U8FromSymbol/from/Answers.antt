@@ -1,8 +1,8 @@
--- `symbol::byte_of` meets its contract: four pairs fit a byte (`pair_small`), and make it (`byte_is`). Assumes nothing.
+-- `u8::from` of a symbol meets its contract: four pairs fit a byte (`pair_small`), and make it (`byte_is`). Assumes nothing.
 use native.Mathlib.Omega.{arith}
 use Rattle.symbol.proofs.Amplitudes.{pair_small, byte_is}
 use borrow.Author.Rules.{rules}
-use Rattle.symbol.proofs.byte_of.Goals as goal
+use Rattle.symbol.proofs.U8FromSymbol.from.Goals as goal
 
 pub overflow_mul-result : goal.overflow_mul-result
 overflow_mul-result c = omega (arith, pair_small _ _ c.pair.ensures)
