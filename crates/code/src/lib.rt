@@ -29,13 +29,7 @@ const GUARD_BITS: usize = sizes::PARITY_FROM - sizes::INFO_BITS;
 const MOST_BLOCKS: usize = sizes::MOST_FRAMES * sizes::FEC_BLOCKS;
 
 // Codes n super frames whose FEC blocks count from m0 on. The count is the number of words written.
-pub fn code(
-    n: u64,
-    m0: u64,
-    info: &[u8],
-    parity: &[u8],
-    capture: &mut [u8],
-) -> Result<u64, Refused>
+pub fn code(n: u64, m0: u64, info: &[u8], parity: &[u8], capture: &mut [u8]) -> Result<u64, Refused>
     ensures { Outcome (code_answer n m0 info.now parity.now capture.old)
         (code_leaves n m0 info.now parity.now capture.old) (answered result) capture.new }
 {

@@ -4,9 +4,9 @@
 ghost use Rattle.std.specs.Prelude.{◌≡◌, not, eqb, ◌+◌, ◌*◌, ◌%◌, ◌≤◌, ◌<◌, length};
 ghost use Rattle.prelude.specs.Lists.{from_index};
 ghost use Rattle.bits.specs.Bits.{bit_at, pack};
-ghost use Rattle.prelude.specs.Loops.{first};
 ghost use Rattle.answer.specs.Outcomes.{Outcome};
 ghost use Rattle.answer.specs.Rows.{answer_of};
+ghost use Rattle.answer.specs.Refusals.{answered};
 ghost use Rattle.hamming.specs.Code.{checks_of};
 ghost use Rattle.hamming_table.specs.Steps.{byte_table};
 ghost use Rattle.crc.specs.Remainder.{rem_from};
@@ -19,9 +19,9 @@ ghost use Rattle.line.specs.Words.{fec_in};
 ghost use Rattle.edit_spec.specs.Edit.{fec_of, block_from, change, crc_change, element_fec, element_local, listed, fails, client_spare_set, edit_early_rows, edit_answer};
 ghost use Rattle.edit_spec.specs.Edit.{edit_leaves};
 ghost use Rattle.edit_spec.specs.Steps.{AcceptedEdit, first_element, stretch_from, stretch_to, new_element, field_element, with_field, crc_bit, with_crc, remade};
-ghost use Rattle.edit_spec.specs.Steps.{InTail, InBlock, NextWord, Lent, Passing, WordPassed};
+ghost use Rattle.edit_spec.specs.Steps.{first_found, InTail, InBlock, NextWord, Lent, Passing, WordPassed};
 
-use answer::Answer;
+use answer::{Refusal, Refused};
 
 // The last bit of a client block.
 const BLOCK_LAST: usize = sizes::BLOCK_BITS - 1;
@@ -38,11 +38,11 @@ pub fn edit(
     parity: &[u8],
     capture: &mut [u8],
     list: &mut [u64],
-) -> Answer
+) -> Result<u64, Refused>
     ensures { Outcome (edit_answer n block bits.now parity.now capture.old list.old)
-        (edit_leaves n block bits.now parity.now capture.old list.old) result (capture.new, list.new) }
+        (edit_leaves n block bits.now parity.now capture.old list.old) (answered result) (capture.new, list.new) }
 {
-    let r = judge(
+    judge(
         n,
         block,
         bits.len() as u64,
@@ -50,27 +50,32 @@ pub fn edit(
         capture.len() as u64,
         list.len() as u64,
         spare_set(bits),
-    );
-    if r.number != 0 {
-        return r;
-    }
+    )?;
     edit_checked(n as usize, block as usize, bits, parity, capture, list)
 }
 
 // Numbers 1 to 3, from the numbers, the buffers' lengths and whether a spare bit is set.
-fn judge(n: u64, block: u64, bits: u64, parity: u64, capture: u64, list: u64, spare: bool) -> Answer
-    ensures { result ≡ answer_of (edit_early_rows n block bits parity capture list spare) 0 }
+fn judge(
+    n: u64,
+    block: u64,
+    bits: u64,
+    parity: u64,
+    capture: u64,
+    list: u64,
+    spare: bool,
+) -> Result<u64, Refused>
+    ensures { answered result ≡ answer_of (edit_early_rows n block bits parity capture list spare) 0 }
 {
     if !line::one_of(n, sizes::SUPER_CLIENT_BLOCKS as u32, block) {
-        return answer::refuse(answer::OUTSIDE_SET, 0);
+        return Err(Refusal::OutsideSet.at(0));
     }
     let capture_bytes = sizes::SUPER_CAPTURE_BYTES as u64 * n + sizes::FILLER_BYTES as u64;
-    let done = answer::granted(0);
-    let a = answer::refuse_if(spare, answer::SPARE_BIT, answer::buffer_place(1), done);
-    let b = answer::refuse_length(4, list, sizes::LIST_LENGTH as u64, a);
-    let c = answer::refuse_length(3, capture, capture_bytes, b);
-    let d = answer::refuse_length(2, parity, sizes::PARITY_BYTES as u64, c);
-    answer::refuse_length(1, bits, sizes::BLOCK_BYTES as u64, d)
+    answer::refuse_length(1, bits, sizes::BLOCK_BYTES as u64)?;
+    answer::refuse_length(2, parity, sizes::PARITY_BYTES as u64)?;
+    answer::refuse_length(3, capture, capture_bytes)?;
+    answer::refuse_length(4, list, sizes::LIST_LENGTH as u64)?;
+    answer::refuse_if(spare, Refusal::SpareBit, answer::buffer_place(1))?;
+    Ok(0)
 }
 
 // Whether one of the seven spare bits behind the 257 is set.
@@ -180,20 +185,20 @@ fn is_refused(n: usize, b: usize, capture: &[u8], t: &[u16; 4096], w: usize) -> 
     fails_check(t, capture, w)
 }
 
-// The first such word, or the number of words.
-fn first_refused(n: usize, b: usize, capture: &[u8], t: &[u16; 4096]) -> usize
+// The first such word.
+fn first_refused(n: usize, b: usize, capture: &[u8], t: &[u16; 4096]) -> Option<u64>
     requires { (n ≤ most_frames) × (b < blocks_of n) × (t.now ≡ byte_table) }
-    ensures { result ≡ first (fails n b capture.now) (words n) }
+    ensures { result ≡ first_found (fails n b capture.now) (words n) }
 {
     let to = stretch_to(b);
     let mut w = stretch_from(b);
     while w < to {
         if is_refused(n, b, capture, t, w) {
-            return w;
+            return Some(w as u64);
         }
         w = next_word(b, w);
     }
-    sizes::SUPER_ELEMENTS * n + sizes::LONGEST_WAIT
+    None
 }
 
 // ---- fields of an element, eight bits at a time
@@ -450,15 +455,12 @@ fn edit_checked(
     parity: &[u8],
     capture: &mut [u8],
     list: &mut [u64],
-) -> Answer
+) -> Result<u64, Refused>
     requires { AcceptedEdit n b bits.now parity.now capture.old list.old }
     ensures { Outcome (edit_answer n b bits.now parity.now capture.old list.old)
-        (edit_leaves n b bits.now parity.now capture.old list.old) result (capture.new, list.new) }
+        (edit_leaves n b bits.now parity.now capture.old list.old) (answered result) (capture.new, list.new) }
 {
     let t = hamming_table::byte_table();
-    let w = first_refused(n, b, capture, &t);
-    if w < sizes::SUPER_ELEMENTS * n + sizes::LONGEST_WAIT {
-        return answer::refuse(answer::LISTED_FAILS, w as u64);
-    }
-    answer::granted(replace(n, b, bits, parity, &t, capture, list) as u64)
+    answer::refuse_at(Refusal::ListedFails, first_refused(n, b, capture, &t))?;
+    Ok(replace(n, b, bits, parity, &t, capture, list) as u64)
 }

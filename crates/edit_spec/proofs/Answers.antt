@@ -1,32 +1,39 @@
 -- The table of an edit: its answer is exact, and the code comes to it by numbers 1 to 3 first, then number 9. Assumes nothing.
-use Prim.Native.Nat.{ℕ, ◌%◌, ◌≤◌, ◌<◌}
+use Prim.Native.Nat.{ℕ, ◌%◌, ◌<◌}
 use mathlib.Core.Bool.{Bool, true, false, not, ◌&&◌}
 use mathlib.Core.Path.{◌≡◌, refl, sym, ap, ap₂, ◌∙◌}
 use mathlib.Core.List.{List, [], ◌∷◌}
-use native.Mathlib.Omega.{arith}
-use borrow.Author.Tests.{ltb-true, lt-ltb, le-ltb, not-false}
+use borrow.Author.Tests.{ltb-true, lt-ltb, not-false}
 use lib.Dec.{ltb, eqb}
 use lib.ListN.{length, get_or}
+use Rattle.std.specs.Prelude.{cond, Option, Some, None, Result, Ok, Err, IfOk, IfErr}
+use Rattle.std.specs.Result.{is_err}
+use Rattle.std.proofs.lemmas.Result.{IfOk-at_ok, IfErr-at_err}
 use Rattle.bits.specs.Bits.{num, bit_at}
 use Rattle.prelude.specs.Loops.{first, count}
-use Rattle.prelude.proofs.Common.{and_right}
+use Rattle.prelude.proofs.Common.{clash, and_right}
 use Rattle.bits.proofs.Numbers.{num_back}
 use Rattle.bits.proofs.Packing.{bit_of_lt, num-bit_of}
-use Rattle.answer.specs.Numbers.{all_done, wrong_length, spare_bit, listed_fails}
+use Rattle.answer.specs.Numbers.{all_done, wrong_length, spare_bit}
 use Rattle.answer.specs.Rows.{Row, done, refused, wrong, FirstFault, row_number, answer_of, rising}
 use Rattle.answer.specs.Demand1.{Exactly, Demand1}
 use Rattle.answer.specs.Outcomes.{Outcome}
+use Rattle.answer.specs.Refusals.{number_of, refused_at, found_at, answered}
+use Rattle.answer.specs.declared.refusal.Refusal.{Refusal}
+use Rattle.answer.specs.declared.refusal.Refusal.TheVariants.{ListedFails}
+use Rattle.answer.specs.declared.refusal.Refused.{Refused}
 use Rattle.answer.specs.Steps.{row_then, in_turn, NoFault, RowPassed, Passed}
 use Rattle.answer.specs.declared.Answer.{Answer}
 use Rattle.answer.proofs.Table.{exactly, demand_1}
 use Rattle.answer.proofs.Buffers.{which_buffer}
 use Rattle.answer.proofs.Turns.{in_turn_law, passed, early_refused, early_passed, right_length, length_right}
+use Rattle.answer.proofs.Results.{same_numbers}
 use Rattle.answer.proofs.Meets.{meets_done, meets_refused}
 use Rattle.sizes.specs.Sizes.{block_bytes, parity_bytes, list_length, words, blocks_of, capture_length}
 use Rattle.line.specs.Captures.{super_allowed}
 use Rattle.line.proofs.CaptureLaws.{frames_in, all_frames}
 use Rattle.edit_spec.specs.Edit.{listed, client_spare_set, fails, edit_early_rows, edit_late_rows, edit_rows, edit_answer, edited, edit_leaves}
-use Rattle.edit_spec.specs.Steps.{AcceptedEdit, Passing}
+use Rattle.edit_spec.specs.Steps.{AcceptedEdit, Passing, first_found}
 use Rattle.edit_spec.proofs.Passes.{passing_capture, passing_list}
 
 -- ---- the seven spare bits are the low seven of the last byte
@@ -40,6 +47,30 @@ spare_test bits x e h =
 edit_early_rise : (N b bits parity cap list : ℕ) (spare : Bool) → rising 0 (edit_early_rows N b bits parity cap list spare) ≡ true
 unfolding rising edit_early_rows row_number
 edit_early_rise N b bits parity cap list spare = refl
+
+-- no refusal's number is 0
+pub refused_some : (e : Refused) → number_of e.refusal ≡ all_done → ⊥
+refused_some e h =
+    clash refl (ap is_err (same_numbers {x = Err (refused_at e.refusal 0)} {y = Ok 0} (ap (λ (k : ℕ). refused k 0) h)))
+
+-- ---- a search: it refuses at the first place that is picked, or nothing is picked
+
+module _ (p : ℕ → Bool) (n : ℕ) (r : Refusal) where
+  found_refused : {e : Refused} → Err e ≡ found_at r (first_found p n) → (ltb (first p n) n ≡ true) × (refused_at r (first p n) ≡ e)
+  unfolding first_found
+  found_refused h = IfErr-at_err (λ x. (ltb (first p n) n ≡ true) × (refused_at r (first p n) ≡ x)) (sym h) (shown (ltb (first p n) n))
+    where
+      shown : (t : Bool) → IfErr (found_at r (cond t (Some (first p n)) None)) (λ x. (t ≡ true) × (refused_at r (first p n) ≡ x))
+      shown true = (refl, refl)
+      shown false = tt
+
+  found_gone : {u : Unit {0}} → Ok u ≡ found_at r (first_found p n) → ltb (first p n) n ≡ false
+  unfolding first_found
+  found_gone h = IfOk-at_ok (λ _. ltb (first p n) n ≡ false) (sym h) (shown (ltb (first p n) n))
+    where
+      shown : (t : Bool) → IfOk (found_at r (cond t (Some (first p n)) None)) (λ _. t ≡ false)
+      shown true = tt
+      shown false = refl
 
 module _ (N b : ℕ) (bits parity cap list : List ℕ) where
   abbrev rows : List Row
@@ -125,20 +156,20 @@ module _ (N b : ℕ) (bits parity cap list : List ℕ) where
     unfolding edit_answer
     late = early_passed early (edit_late_rows N b cap) how_many shown ∙ in_turn_law (edit_late_rows N b cap) how_many
 
-    module _ {r : Answer} {w : ℕ} (found : w ≡ first (fails N b cap) (words N)) where
+    module _ {o : Option ℕ} (found : o ≡ first_found (fails N b cap) (words N)) where
       -- at the first word that fails
-      pub nine_outcome : w < words N → r ≡ refused listed_fails w → Outcome (edit_answer N b bits parity cap list) (edit_leaves N b bits parity cap list) r
-          (cap, list)
+      pub nine_outcome : {e : Refused} {x : Result ℕ Refused} → Err e ≡ found_at ListedFails o → x ≡ Err e
+          → Outcome (edit_answer N b bits parity cap list) (edit_leaves N b bits parity cap list) (answered x) (cap, list)
       unfolding edit_leaves edit_late_rows in_turn row_then
-      nine_outcome l q = meets_refused (edited N b bits parity cap list) (q ∙ sym (late ∙ rw (← found, lt-ltb w (words N) l)))
-          (λ z. nine (sym (ap (λ (x : Answer). x.number) q) ∙ z))
-        where
-          nine : listed_fails ≡ all_done → ⊥
-          nine e = omega arith
+      nine_outcome {e} h q =
+          let f = found_refused (fails N b cap) (words N) ListedFails (h ∙ ap (found_at ListedFails) found) in
+          meets_refused (edited N b bits parity cap list) (ap answered q ∙ ap (λ (y : Refused). answered (Err y)) (sym f.1) ∙ sym (late ∙ rw f.0))
+          (λ z. refused_some e (ap (λ (y : Answer). y.number) (sym (ap answered q)) ∙ z))
 
-      pub done_outcome : {c : ℕ} {cap' list' : List ℕ} → words N ≤ w → Passing N b bits parity cap list (words N) cap' list' c → r ≡ done c
-          → Outcome (edit_answer N b bits parity cap list) (edit_leaves N b bits parity cap list) r (cap', list')
+      pub done_outcome : {u : Unit {0}} {c : ℕ} {cap' list' : List ℕ} → Ok u ≡ found_at ListedFails o → Passing N b bits parity cap list (words N) cap' list' c
+          → Outcome (edit_answer N b bits parity cap list) (edit_leaves N b bits parity cap list) (done c) (cap', list')
       unfolding edit_leaves edit_late_rows in_turn row_then
-      done_outcome {c} l p q =
-          meets_done (cap, list) (q ∙ ap done p.counted ∙ sym (late ∙ rw (← found, le-ltb w (words N) l))) (ap (λ (x : Answer). x.number) q)
+      done_outcome {u} {c} h p =
+          let f = found_gone (fails N b cap) (words N) ListedFails (h ∙ ap (found_at ListedFails) found) in
+          meets_done (cap, list) (ap done p.counted ∙ sym (late ∙ rw f)) refl
           (ap₂ (λ (x y : List ℕ). (x, y)) (passing_capture N b bits parity cap list p) (passing_list N b bits parity cap list p))

@@ -1,8 +1,8 @@
 -- The steps of an edit as the code takes them: a word made anew from its received bytes, and how far a pass has come. Assumes nothing: these are definitions.
-use Rattle.std.specs.Prelude.{ℕ, ◌+◌, ◌-◌, ◌*◌, ◌/◌, ◌%◌, ◌≤◌, ◌<◌, Bool, true, false, cond, ◌≡◌, List, ◌++◌, length, set, drop, ltb}
+use Rattle.std.specs.Prelude.{ℕ, ◌+◌, ◌-◌, ◌*◌, ◌/◌, ◌%◌, ◌≤◌, ◌<◌, Bool, true, false, cond, ◌≡◌, Option, Some, None, List, ◌++◌, length, set, drop, ltb}
 use Rattle.bits.specs.Bits.{digit, bit_at, pack, added}
 use Rattle.bits_place.specs.Steps.{placed_at, masked}
-use Rattle.prelude.specs.Loops.{count}
+use Rattle.prelude.specs.Loops.{first, count}
 use Rattle.scrambler.specs.Scrambler.{o}
 use Rattle.scrambling.specs.Steps.{one_period, frame_place}
 use Rattle.hamming.specs.Code.{coded}
@@ -26,6 +26,10 @@ pub record AcceptedEdit (N b : ℕ) (bits parity cap list : List ℕ) : Type 0 w
   pub capture_long : length cap ≡ capture_length N
   pub list_long : length list ≡ list_length
   pub no_spare : client_spare_set bits ≡ false
+
+-- the first of n places that p picks, if one is picked
+unfoldable pub first_found : (ℕ → Bool) → ℕ → Option ℕ
+first_found p n = cond (ltb (first p n) n) (Some (first p n)) None
 
 -- ---- where the listed words are
 

@@ -6,6 +6,7 @@ ghost use Rattle.prelude.specs.Lists.{tabulate, from_index};
 ghost use Rattle.bits.specs.Bits.{num, bit_at, pack};
 ghost use Rattle.prelude.specs.Loops.{upto};
 ghost use Rattle.answer.specs.Outcomes.{Outcome};
+ghost use Rattle.answer.specs.Refusals.{answered};
 ghost use Rattle.crc.specs.Crc.{crc_of};
 ghost use Rattle.crc.specs.Steps.{entries};
 ghost use Rattle.hamming.specs.Code.{checks_of};
@@ -21,7 +22,7 @@ ghost use Rattle.read_spec.specs.Read.{repaired, all_zero, read_answer, read_lea
 ghost use Rattle.read_spec.specs.Steps.{AcceptedRead, OneIf, Tables, sequence, sought_of, words_to, frame_of, followed, received_in, mbas_off, crc_off, pad_off};
 ghost use Rattle.read_spec.specs.Steps.{block_taken, frames_to, info_in, parity_in, late_answer, late_leaves};
 
-use answer::Answer;
+use answer::Refused;
 use hamming::Repaired;
 use read_spec::{BlockTally, WordTally};
 
@@ -33,28 +34,36 @@ const PAD_BYTES: usize = (sizes::PAD_BITS + 7) / 8;
 
 // Takes n super frames, whose FEC blocks count from m0 on, and a capture, and fills information and parity. The count is that of the
 // words whose checks were not zero.
-pub fn read(n: u64, m0: u64, capture: &[u8], info: &mut [u8], parity: &mut [u8]) -> Answer
+pub fn read(
+    n: u64,
+    m0: u64,
+    capture: &[u8],
+    info: &mut [u8],
+    parity: &mut [u8],
+) -> Result<u64, Refused>
     ensures { Outcome (read_answer n m0 capture.now info.old parity.old)
-        (read_leaves n m0 capture.now info.old parity.old) result (info.new, parity.new) }
+        (read_leaves n m0 capture.now info.old parity.old) (answered result) (info.new, parity.new) }
 {
-    let r = read_spec::judge(
+    read_spec::judge(
         n,
         m0,
         capture.len() as u64,
         info.len() as u64,
         parity.len() as u64,
-    );
-    if r.number == 0 {
-        read_accepted(n as usize, m0, capture, info, parity)
-    } else {
-        r
-    }
+    )?;
+    read_accepted(n as usize, m0, capture, info, parity)
 }
 
 // The numbers and lengths are right. Tables are made once and lent; a constant one would be copied at every use.
-fn read_accepted(n: usize, m0: u64, capture: &[u8], info: &mut [u8], parity: &mut [u8]) -> Answer
+fn read_accepted(
+    n: usize,
+    m0: u64,
+    capture: &[u8],
+    info: &mut [u8],
+    parity: &mut [u8],
+) -> Result<u64, Refused>
     requires { AcceptedRead n capture.now info.old parity.old }
-    ensures { Outcome (late_answer n m0 capture.now) (late_leaves n m0 capture.now info.old parity.old) result
+    ensures { Outcome (late_answer n m0 capture.now) (late_leaves n m0 capture.now info.old parity.old) (answered result)
         (info.new, parity.new) }
 {
     let t = hamming_table::byte_table();
@@ -98,19 +107,17 @@ fn read_by(
     buffer: &mut [u8],
     info: &mut [u8],
     parity: &mut [u8],
-) -> Answer
+) -> Result<u64, Refused>
     requires { Tables t.now positions.now × (scr.now ≡ sequence) × (length buffer.old ≡ super_bytes)
         × AcceptedRead n capture.now info.old parity.old }
-    ensures { Outcome (late_answer n m0 capture.now) (late_leaves n m0 capture.now info.old parity.old) result
+    ensures { Outcome (late_answer n m0 capture.now) (late_leaves n m0 capture.now info.old parity.old) (answered result)
         (info.new, parity.new) }
 {
     let w = tally_words(t, positions, n, capture);
     let b = tally_frames(t, positions, scr, n, m0, capture, buffer);
-    let r = read_spec::verdict(n as u32, w, b);
-    if r.number == 0 {
-        write_frames(t, positions, scr, n, capture, buffer, info, parity);
-    }
-    r
+    let seen = read_spec::verdict(n as u32, w, b)?;
+    write_frames(t, positions, scr, n, capture, buffer, info, parity);
+    Ok(seen)
 }
 
 // A search that goes on to the end: x is the first place picked among the first k, or k, and place k is taken in.

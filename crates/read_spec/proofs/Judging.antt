@@ -4,13 +4,18 @@ use mathlib.Core.Bool.{true}
 use mathlib.Core.Path.{◌≡◌, refl, sym, ap, ap₂, ◌∙◌}
 use mathlib.Core.List.{List, [], ◌∷◌}
 use lib.ListN.{length}
+use Rattle.std.specs.Prelude.{Result, Ok, Err}
+use Rattle.std.proofs.lemmas.Result.{IfErr-at_err}
 use Rattle.prelude.specs.Loops.{count}
 use Rattle.answer.specs.Numbers.{all_done, wrong_length}
-use Rattle.answer.specs.Rows.{Row, done, wrong, FirstFault, row_number, places_of, holds_at, first_of, answer_of, rising}
+use Rattle.answer.specs.Rows.{Row, done, refused, wrong, FirstFault, row_number, places_of, holds_at, first_of, answer_of, rising}
 use Rattle.answer.specs.Demand1.{Exactly, Demand1}
 use Rattle.answer.specs.Outcomes.{Outcome, written}
 use Rattle.answer.specs.Steps.{NoFault, RowPassed, Passed}
 use Rattle.answer.specs.declared.Answer.{Answer}
+use Rattle.answer.specs.Refusals.{answered, refused_at}
+use Rattle.answer.specs.declared.refusal.Refused.{Refused}
+use Rattle.answer.proofs.Results.{same_numbers}
 use Rattle.answer.proofs.Table.{exactly, demand_1}
 use Rattle.answer.proofs.Buffers.{which_buffer}
 use Rattle.answer.proofs.Turns.{in_turn_law, passed, early_refused, early_passed, right_length}
@@ -33,6 +38,12 @@ read_early_rise N m0 cap info par = refl
 tallied : (N m0 : ℕ) (cap : List ℕ) → answer_of (read_late_rows N m0 cap) (count (is_seen cap) (words N)) ≡ late_answer N m0 cap
 unfolding read_late_rows answer_of first_of row_number places_of holds_at verdict_of
 tallied N m0 cap = refl
+
+-- what is refused is not done
+pub not_done : (r : Refused) → (answered (Err r)).number ≡ all_done → ⊥
+not_done r z =
+    let e : ◌≡◌ {A = Result ℕ Refused} (Err (refused_at r.refusal 0)) (Ok 0) = same_numbers (ap (λ (n : ℕ). refused n 0) z) in
+    IfErr-at_err (λ _. ⊥) (sym e) tt
 
 module _ (N m0 : ℕ) (cap info par : List ℕ) where
   abbrev rows : List Row

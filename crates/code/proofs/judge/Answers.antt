@@ -46,5 +46,11 @@ returns-in_err-refuse_length-2 c = let p = err_from_is_err_and c.from_residual-i
 
 pub returns : goal.returns
 unfolding code_rows in_turn row_then faults_then
-returns c = rw (in_turn_law, ← c.numbers_allowed.ensures, c.if-not-numbers_allowed.false, test_gone _ c.in_ok-refuse_length.ensures,
-        test_gone _ c.in_ok-refuse_length-2.ensures, test_gone _ c.in_ok-refuse_length-3.ensures)
+returns c = rw (
+  in_turn_law,
+  ← c.numbers_allowed.ensures,
+  c.if-not-numbers_allowed.false,
+  test_gone _ c.in_ok-refuse_length.ensures,
+  test_gone _ c.in_ok-refuse_length-2.ensures,
+  test_gone _ c.in_ok-refuse_length-3.ensures,
+)
