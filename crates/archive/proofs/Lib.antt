@@ -1,2 +1,3 @@
--- That each contract has one answer.
+-- The laws of a call that refuses, and that each contract has one answer.
+pub mod Refusing
 pub mod Unique

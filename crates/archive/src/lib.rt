@@ -3,6 +3,7 @@
 
 ghost use Rattle.std.specs.Prelude.{◌≡◌, length};
 ghost use Rattle.answer.specs.Outcomes.{Outcome};
+ghost use Rattle.answer.specs.Refusals.{answered};
 ghost use Rattle.archive_spec.specs.Write.{write_answer, write_leaves};
 ghost use Rattle.archive_spec.specs.Read.{open_answer, open_leaves};
 
@@ -10,7 +11,7 @@ mod field;
 mod opening;
 mod writing;
 
-use answer::Answer;
+use answer::Refused;
 
 pub const ENTRY_BYTES: usize = 9;
 
@@ -22,15 +23,13 @@ pub const BEFORE_ENTRIES: usize = 18;
 pub const MOST_HEAD_BYTES: usize = BEFORE_ENTRIES + ENTRY_BYTES * MOST_ENTRIES;
 
 // Makes the head of a file whose bodies have these kinds and lengths. The count is that of its bytes.
-pub fn write(count: u64, kinds: &[u64], lengths: &[u64], head: &mut [u8]) -> Answer
+pub fn write(count: u64, kinds: &[u64], lengths: &[u64], head: &mut [u8]) -> Result<u64, Refused>
     ensures { Outcome (write_answer count kinds.now lengths.now (length head.old))
-        (write_leaves count kinds.now lengths.now head.old) result head.new }
+        (write_leaves count kinds.now lengths.now head.old) (answered result) head.new }
 {
-    let r = writing::judge(count, kinds, lengths, head.len() as u64);
-    if r.number == 0 {
-        writing::put_head(count as usize, kinds, lengths, head);
-    }
-    r
+    let bytes = writing::judge(count, kinds, lengths, head.len() as u64)?;
+    writing::put_head(count as usize, kinds, lengths, head);
+    Ok(bytes)
 }
 
 // Opens the file of `size` bytes that begins with `first`, and lists its table. The count is that of its entries.
@@ -40,21 +39,19 @@ pub fn read(
     kinds: &mut [u64],
     offsets: &mut [u64],
     lengths: &mut [u64],
-) -> Answer
+) -> Result<u64, Refused>
     ensures { Outcome
         (open_answer size first.now (length kinds.old) (length offsets.old) (length lengths.old))
-        (open_leaves size first.now kinds.old offsets.old lengths.old) result
+        (open_leaves size first.now kinds.old offsets.old lengths.old) (answered result)
         (kinds.new, (offsets.new, lengths.new)) }
 {
-    let r = opening::judge(
+    let n = opening::judge(
         size,
         first,
         kinds.len() as u64,
         offsets.len() as u64,
         lengths.len() as u64,
-    );
-    if r.number == 0 {
-        field::list_all(first, r.count as usize, kinds, offsets, lengths);
-    }
-    r
+    )?;
+    field::list_all(first, n as usize, kinds, offsets, lengths);
+    Ok(n)
 }

@@ -2,33 +2,30 @@
 ghost use Rattle.std.specs.Prelude.{◌≡◌, ◌≤◌, ◌<◌, min};
 ghost use Rattle.prelude.specs.Loops.{first};
 ghost use Rattle.answer.specs.Rows.{answer_of};
+ghost use Rattle.answer.specs.Refusals.{answered};
 ghost use Rattle.archive_spec.specs.File.{most_entries, most_head_bytes, field_most, count_in};
 ghost use Rattle.archive_spec.specs.Read.{is_no_archive, bad_kind, off_rule, open_early_rows, open_late_rows, open_answer};
 ghost use Rattle.archive_spec.specs.Steps.{bad_count_of, off_rule_at, entries_answer};
 
 use crate::{BEFORE_ENTRIES, MOST_ENTRIES, MOST_HEAD_BYTES, field};
-use answer::Answer;
+use answer::{Refusal, Refused};
 
 // The table of reading, its tests in turn: the lengths first, then the file.
-pub(crate) fn judge(size: u64, first: &[u8], kinds: u64, offsets: u64, lengths: u64) -> Answer
-    ensures { result ≡ open_answer size first.now kinds offsets lengths }
-{
-    let r = judge_lengths(size, first.len() as u64, kinds, offsets, lengths);
-    if r.number != 0 {
-        return r;
-    }
-    judge_file(size, first)
-}
-
-fn judge_lengths(size: u64, bytes: u64, kinds: u64, offsets: u64, lengths: u64) -> Answer
-    ensures { result ≡ answer_of (open_early_rows size bytes kinds offsets lengths) 0 }
+pub(crate) fn judge(
+    size: u64,
+    first: &[u8],
+    kinds: u64,
+    offsets: u64,
+    lengths: u64,
+) -> Result<u64, Refused>
+    ensures { answered result ≡ open_answer size first.now kinds offsets lengths }
 {
     let most = MOST_ENTRIES as u64;
-    let a = answer::granted(0);
-    let b = answer::refuse_length(4, lengths, most, a);
-    let c = answer::refuse_length(3, offsets, most, b);
-    let d = answer::refuse_length(2, kinds, most, c);
-    answer::refuse_length(1, bytes, wanted(size), d)
+    answer::refuse_length(1, first.len() as u64, wanted(size))?;
+    answer::refuse_length(2, kinds, most)?;
+    answer::refuse_length(3, offsets, most)?;
+    answer::refuse_length(4, lengths, most)?;
+    judge_file(size, first)
 }
 
 // So many first bytes are looked at.
@@ -43,29 +40,25 @@ fn wanted(size: u64) -> u64
 }
 
 // Numbers 10 to 12.
-fn judge_file(size: u64, first: &[u8]) -> Answer
-    ensures { result ≡ answer_of (open_late_rows size first.now) (count_in first.now) }
+fn judge_file(size: u64, first: &[u8]) -> Result<u64, Refused>
+    ensures { answered result ≡ answer_of (open_late_rows size first.now) (count_in first.now) }
 {
-    if is_no_archive(size, first) {
-        return answer::refuse(answer::NOT_ARCHIVE, 0);
-    }
+    answer::refuse_if(is_no_archive(size, first), Refusal::NotArchive, 0)?;
     let n = field::number_at(2, first, 16);
-    if is_bad_count(size, n) {
-        return answer::refuse(answer::BAD_ENTRY, 0);
-    }
+    answer::refuse_if(is_bad_count(size, n), Refusal::BadEntry, 0)?;
     judge_entries(size, first, n as usize)
 }
 
-// 11 and 12 of the n entries.
-fn judge_entries(size: u64, first: &[u8], n: usize) -> Answer
+// 11 and 12 of the n entries, whose places count from 1.
+fn judge_entries(size: u64, first: &[u8], n: usize) -> Result<u64, Refused>
     requires { n ≤ most_entries }
-    ensures { result ≡ entries_answer size first.now n }
+    ensures { answered result ≡ entries_answer size first.now n }
 {
     let bad = first_bad_kind(size, first, n);
     let off = first_off_rule(size, first, n);
-    let a = answer::granted(n as u64);
-    let b = answer::refuse_if(off < n, answer::MISPLACED, off as u64 + 1, a);
-    answer::refuse_if(bad < n, answer::BAD_ENTRY, bad as u64 + 1, b)
+    answer::refuse_if(bad < n, Refusal::BadEntry, bad as u64 + 1)?;
+    answer::refuse_if(off < n, Refusal::Misplaced, off as u64 + 1)?;
+    Ok(n as u64)
 }
 
 fn is_no_archive(size: u64, first: &[u8]) -> bool

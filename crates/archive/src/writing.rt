@@ -1,28 +1,27 @@
 // What writing answers, and the head that it makes.
 ghost use Rattle.std.specs.Prelude.{◌≡◌, ◌+◌, ◌≤◌, min, length};
 ghost use Rattle.prelude.specs.Loops.{first};
+ghost use Rattle.answer.specs.Refusals.{answered};
 ghost use Rattle.archive_spec.specs.File.{most_entries, entry_bytes, head_bytes, fixed_bytes, fixed, table_entry, head_of};
 ghost use Rattle.archive_spec.specs.Write.{nth, entry_outside, write_outside, write_answer};
 ghost use Rattle.archive_spec.specs.Steps.{Head, HeadUpTo, Inside, outside_at, placed};
 
 use crate::field;
-use answer::Answer;
+use answer::{Refusal, Refused};
 
 // The most that a field of four bytes holds.
 const FIELD_MOST: u64 = 4294967295;
 
 // The table of writing, its tests in turn.
-pub(crate) fn judge(count: u64, kinds: &[u64], lengths: &[u64], head: u64) -> Answer
-    ensures { result ≡ write_answer count kinds.now lengths.now head }
+pub(crate) fn judge(count: u64, kinds: &[u64], lengths: &[u64], head: u64) -> Result<u64, Refused>
+    ensures { answered result ≡ write_answer count kinds.now lengths.now head }
 {
-    if outside(count, kinds, lengths) {
-        return answer::refuse(answer::OUTSIDE_SET, 0);
-    }
+    answer::refuse_if(outside(count, kinds, lengths), Refusal::OutsideSet, 0)?;
+    answer::refuse_length(1, kinds.len() as u64, count)?;
+    answer::refuse_length(2, lengths.len() as u64, count)?;
     let bytes = field::entry_from(count as usize) as u64;
-    let a = answer::granted(bytes);
-    let b = answer::refuse_length(3, head, bytes, a);
-    let c = answer::refuse_length(2, lengths.len() as u64, count, b);
-    answer::refuse_length(1, kinds.len() as u64, count, c)
+    answer::refuse_length(3, head, bytes)?;
+    Ok(bytes)
 }
 
 // Whether the count is none, or an entry that was handed in has a kind, a length or an offset outside its field.
