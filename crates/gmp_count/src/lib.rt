@@ -2,10 +2,11 @@
 #![tactic(auto)]
 
 ghost use Rattle.std.specs.Prelude.{◌≡◌};
+ghost use Rattle.answer.specs.Refusals.{answered};
 ghost use Rattle.gmp_count.specs.Count.{count_of};
 ghost use Rattle.gmp_count.specs.Steps.{nothing_read, step_of, more_of, so_far};
 
-use answer::Answer;
+use answer::{Refusal, Refused};
 
 // Above every count: what has come to it stays there, so that a line of any length is read.
 const TOO_MUCH: u32 = sizes::PLACES as u32 + 1;
@@ -19,8 +20,8 @@ pub struct Partial {
 }
 
 // The count of the first line of s, or its refusal.
-pub fn count_of(s: &[u8]) -> Answer
-    ensures { result ≡ count_of s.now }
+pub fn count_of(s: &[u8]) -> Result<u64, Refused>
+    ensures { answered result ≡ count_of s.now }
 {
     so_far(more(start(), s))
 }
@@ -48,20 +49,12 @@ pub fn more(kept: Partial, s: &[u8]) -> Partial
 }
 
 // What has been read, as a count.
-pub fn so_far(kept: Partial) -> Answer
-    ensures { result ≡ so_far kept }
+pub fn so_far(kept: Partial) -> Result<u64, Refused>
+    ensures { answered result ≡ so_far kept }
 {
-    answer::refuse_if(
-        !kept.some,
-        answer::OUTSIDE_SET,
-        0,
-        answer::refuse_if(
-            sizes::PLACES < kept.value,
-            answer::OUTSIDE_SET,
-            0,
-            answer::granted(kept.value),
-        ),
-    )
+    answer::refuse_if(!kept.some, Refusal::OutsideSet, 0)?;
+    answer::refuse_if(sizes::PLACES < kept.value, Refusal::OutsideSet, 0)?;
+    Ok(kept.value)
 }
 
 // One byte more.
