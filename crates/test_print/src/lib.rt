@@ -2,6 +2,7 @@
 #![tactic(auto)]
 
 use answer::{Answer, Refused};
+use gmp::Kind;
 use std::io::{self, Write};
 
 // A code word, byte by byte, behind its name.
@@ -11,6 +12,28 @@ pub fn word<W: Write>(out: &mut W, name: &str, w: [u8; 16]) -> io::Result<()> {
         write!(out, "{x:02x}")?;
     }
     writeln!(out)
+}
+
+// The stuff among the first sixteen runs of a count: no row of 001 Table 7 has more.
+pub fn stuff_runs<W: Write>(out: &mut W, c: u64) -> io::Result<()> {
+    let mut j = 1;
+    for _ in 0..16u8 {
+        j = stuff_run(out, c, j)?;
+    }
+    Ok(())
+}
+
+// The run at place j, written where it is of stuff, and the place behind it; past the last place there is no run.
+fn stuff_run<W: Write>(out: &mut W, c: u64, j: u64) -> io::Result<u64> {
+    match gmp::run(c, j) {
+        Ok(run) => {
+            if run.kind == Kind::Stuff {
+                write!(out, " {j}-{}", run.last)?;
+            }
+            Ok(run.last.wrapping_add(1))
+        }
+        Err(_) => Ok(j),
+    }
 }
 
 // What a call answered, as the three numbers that C is handed, behind its name.
