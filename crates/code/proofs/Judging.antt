@@ -1,15 +1,20 @@
 -- The table of coding: its answer is exact, and what a granted call has shown. Assumes nothing.
 use Prim.Native.Nat.{ℕ}
 use mathlib.Core.Bool.{true}
-use mathlib.Core.Path.{◌≡◌, refl, ◌∙◌}
+use mathlib.Core.Path.{◌≡◌, refl, sym, ap, ◌∙◌}
 use mathlib.Core.List.{List, [], ◌∷◌}
 use lib.ListN.{length}
+use Rattle.std.specs.Prelude.{Result, Ok, Err}
+use Rattle.std.proofs.lemmas.Result.{IfErr-at_err}
 use Rattle.answer.specs.Numbers.{all_done, wrong_length}
-use Rattle.answer.specs.Rows.{Row, done, wrong, FirstFault, row_number, answer_of, rising}
+use Rattle.answer.specs.Rows.{Row, done, refused, wrong, FirstFault, row_number, answer_of, rising}
 use Rattle.answer.specs.Demand1.{Exactly, Demand1}
 use Rattle.answer.specs.Outcomes.{Outcome}
 use Rattle.answer.specs.Steps.{NoFault, RowPassed, Passed}
 use Rattle.answer.specs.declared.Answer.{Answer}
+use Rattle.answer.specs.Refusals.{answered, refused_at}
+use Rattle.answer.specs.declared.refusal.Refused.{Refused}
+use Rattle.answer.proofs.Results.{same_numbers}
 use Rattle.answer.proofs.Table.{exactly, demand_1}
 use Rattle.answer.proofs.Buffers.{which_buffer}
 use Rattle.answer.proofs.Turns.{in_turn_law, passed, right_length}
@@ -22,6 +27,12 @@ use Rattle.code.specs.Steps.{Granted}
 pub code_rise : (N m0 info par cap : ℕ) → rising 0 (code_rows N m0 info par cap) ≡ true
 unfolding rising code_rows row_number
 code_rise N m0 info par cap = refl
+
+-- what is refused is not done
+pub not_done : (r : Refused) → (answered (Err r)).number ≡ all_done → ⊥
+not_done r z =
+    let e : ◌≡◌ {A = Result ℕ Refused} (Err (refused_at r.refusal 0)) (Ok 0) = same_numbers (ap (λ (n : ℕ). refused n 0) z) in
+    IfErr-at_err (λ _. ⊥) (sym e) tt
 
 module _ (N m0 : ℕ) (info par cap : List ℕ) where
   abbrev rows : List Row

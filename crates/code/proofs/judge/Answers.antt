@@ -44,6 +44,22 @@ returns-in_err-refuse_length-2 c = let p = err_from_is_err_and c.from_residual-i
     let h = test_held _ c.in_err-refuse_length-2.ensures in
     rw (p.1, p.2, ← h.1, in_turn_law, ← c.numbers_allowed.ensures, c.if-not-numbers_allowed.false, test_gone _ c.in_ok-refuse_length.ensures, h.0)
 
+pub returns-in_err-refuse_length-3 : goal.returns-in_err-refuse_length-3
+unfolding code_rows in_turn row_then faults_then
+returns-in_err-refuse_length-3 c = let p = err_from_is_err_and c.from_residual-in_err-refuse_length-3.result c.from_residual-in_err-refuse_length-3.ensures.1 in
+    let h = test_held _ c.in_err-refuse_length-3.ensures in
+    rw (
+      p.1,
+      p.2,
+      ← h.1,
+      in_turn_law,
+      ← c.numbers_allowed.ensures,
+      c.if-not-numbers_allowed.false,
+      test_gone _ c.in_ok-refuse_length.ensures,
+      test_gone _ c.in_ok-refuse_length-2.ensures,
+      h.0,
+    )
+
 pub returns : goal.returns
 unfolding code_rows in_turn row_then faults_then
 returns c = rw (
