@@ -40,6 +40,7 @@ fn flip(w: [u8; 16], i: u8) -> [u8; 16] {
 }
 
 // The tables by which words are repaired.
+#[derive(Drop)]
 struct Tables {
     checks: [u16; 4096],
     positions: [u8; 512],
@@ -104,7 +105,10 @@ fn main(rt: HostRuntime) -> io::Result<()> {
         let w = word_of(*x, *n, *y);
         let single = tables.single_flips(w);
         let double = tables.double_flips(w);
-        write!(out, "repaired {single} of 128, beyond repair {double} of 8128: ")?;
+        write!(
+            out,
+            "repaired {single} of 128, beyond repair {double} of 8128: "
+        )?;
         test_print::word(&mut out, "", w)?;
     }
     Ok(())
