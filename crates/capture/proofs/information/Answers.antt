@@ -1,16 +1,14 @@
 -- `capture::information` meets its contract: the part itself, or the empty part. Assumes nothing.
+use mathlib.Core.Path.{refl}
 use native.Mathlib.Omega.{arith}
+use Rattle.edit_spec.proofs.Answers.{refused_some}
 use Rattle.capture.proofs.Parting.{Part, granted_part, part_given, part_empty}
-use Rattle.capture.proofs.information.Goals.{Then-r-eq0}
+use Rattle.capture.proofs.information.Goals.{In-Ok}
 use Rattle.capture.proofs.information.Goals as goal
 
--- what the second question's answer 0 says
-shown : (c : Then-r-eq0) → Part c.args.n c.args.t
-    c.args.info.now
-shown c =
-    let a = c.args in
-    let r = c.information_answer-r in
-    granted_part a.n a.t a.info.now r.ensures c.if-r-eq0.true
+-- what a granted request has shown
+shown : (c : In-Ok) → Part c.args.n c.args.t c.args.info.now
+shown c = let a = c.args in granted_part a.n a.t a.info.now c.in-Ok.ensures refl
 
 pub overflow_mul-from : goal.overflow_mul-from
 overflow_mul-from c = omega (arith, shown c)
@@ -21,8 +19,8 @@ overflow_add-result c = omega (arith, shown c)
 pub slice_bounds-result-end : goal.slice_bounds-result-end
 slice_bounds-result-end c = omega (arith, shown c)
 
-pub returns-then-r-eq0 : goal.returns-then-r-eq0
-returns-then-r-eq0 c = let a = c.args in part_given a.n a.t a.info.now c.information_answer-r.ensures c.if-r-eq0.true
+pub returns-in-Ok : goal.returns-in-Ok
+returns-in-Ok c = let a = c.args in part_given a.n a.t a.info.now c.in-Ok.ensures refl
 
-pub returns : goal.returns
-returns c = let a = c.args in part_empty a.n a.t a.info.now c.information_answer-r.ensures c.if-r-eq0.false
+pub returns-in-Err : goal.returns-in-Err
+returns-in-Err c = let a = c.args in part_empty a.n a.t a.info.now c.in-Err.ensures (refused_some c.in-Err.field-0)
