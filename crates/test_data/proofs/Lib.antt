@@ -1,4 +1,4 @@
 -- The laws of `test_data`.
-pub mod Halves
+pub mod Instances
 pub mod Steps
 pub mod Unique

@@ -1,11 +1,11 @@
 -- What the generator has become, and what it has given out, after one step more. Assumes nothing.
-use Prim.Native.Nat.{ℕ, ◌+◌, ◌/◌, ◌^◌, ◌≤◌}
+use Prim.Native.Nat.{ℕ, ◌+◌, ◌≤◌}
 use mathlib.Core.Path.{◌≡◌, refl}
 use native.Mathlib.Numerals.{add-one}
 use native.Mathlib.Omega.{arith}
 use Rattle.prelude.specs.Loops.{upto}
 use Rattle.test_data.specs.declared.Generator.{Generator}
-use Rattle.test_data.specs.Generator.{next, number, after, numbers_from, bytes_from}
+use Rattle.test_data.specs.Generator.{next, number, after, made_by}
 
 -- g is the generator that had the state x, k steps later
 pub record At (x k : ℕ) (g : Generator) : Type 0 where
@@ -22,11 +22,7 @@ at_step {x} {k} {g} {h} p q = record { is = rw (q, p.is, add-one) }
 pub at_end : {x k : ℕ} {g : Generator} (n : ℕ) → At x k g → k ≤ n → n ≤ k → g ≡ record { state = after x n }
 at_end {x} {k} {g} n p l m = let e : k ≡ n = omega arith in rw (p.is, e)
 
--- what it gives out then
-pub gives_number : {x v : ℕ} {h : Generator} (k : ℕ) → At x (k + 1) h → v ≡ number h.state → v ≡ numbers_from x k
-unfolding numbers_from
-gives_number {x} {v} {h} k p q = rw (q, p.is, add-one)
-
-pub gives_byte : {x v : ℕ} {h : Generator} (k : ℕ) → At x (k + 1) h → v ≡ number h.state → v / 2 ^ 56 ≡ bytes_from x k
-unfolding bytes_from
-gives_byte {x} {v} {h} k p q = rw (q, p.is, add-one)
+-- what is made of what it gives out then
+pub gives : {A : Type 0} (made : ℕ → A) {x v : ℕ} {e : A} {h : Generator} (k : ℕ) → At x (k + 1) h → v ≡ number h.state → e ≡ made v → e ≡ made_by made x k
+unfolding made_by
+gives made {x} {v} {e} {h} k p q r = rw (r, q, p.is, add-one)

@@ -31,7 +31,15 @@ below x m = cond (eqb m 0) 0 (number x / 2 ^ 32 % m)
 unfoldable pub after : ℕ → ℕ → ℕ
 after x k = upto (λ _ y. next y) x k
 
--- what is given out after k + 1 steps, whole or the top eight bits of it
+-- the top eight bits of what is given out
+unfoldable pub top_byte : ℕ → ℕ
+top_byte n = n / 2 ^ 56
+
+-- what is made of what is given out after k + 1 steps: `made` says what is made of it
+unfoldable pub made_by : {A : Type 0} → (ℕ → A) → ℕ → ℕ → A
+made_by made x k = made (number (after x (suc k)))
+
+-- whole, and the top eight bits of it
 unfoldable pub numbers_from : ℕ → ℕ → ℕ
 numbers_from x k = number (after x (suc k))
 
@@ -39,6 +47,6 @@ unfoldable pub bytes_from : ℕ → ℕ → ℕ
 bytes_from x k = number (after x (suc k)) / 2 ^ 56
 
 -- a buffer is filled, one step for each element, where `gives` says what the elements are; h is the generator afterwards
-pub record Made (gives : ℕ → ℕ → ℕ) (g : Generator) (before : List ℕ) (h : Generator) (left : List ℕ) : Type 0 where
+pub record Made {A : Type 0} (gives : ℕ → ℕ → A) (g : Generator) (before : List A) (h : Generator) (left : List A) : Type 0 where
   pub filled : left ≡ tabulate (length before) (gives g.state)
   pub state : h ≡ record { state = after g.state (length before) }

@@ -1,130 +1,131 @@
 // Inputs made for the programs by a small stated generator, xorshift64*, and digests of what the programs wrote, FNV-1a of 64 bits.
 #![tactic(auto)]
 
-ghost use Rattle.std.specs.Prelude.{◌≡◌, ◌*◌, ◌%◌, ◌^◌};
-ghost use Rattle.test_data.specs.Generator.{next as next_state, number, below as number_below, Made, bytes_from, numbers_from};
-ghost use Rattle.test_data.specs.Digest.{digest_with, taken_number, digest_of, digest_of_numbers};
+ghost use Rattle.std.specs.Prelude.{◌≡◌, ℕ};
+ghost use Rattle.std.specs.List.{fold};
+ghost use Rattle.test_data.specs.Generator.{
+  next as next_state,
+  number,
+  top_byte,
+  below as number_below,
+  made_by,
+  Made,
+};
+ghost use Rattle.test_data.specs.Digest.{basis, digest_with, taken_number};
 
-// The generator by value: its state, which is the seed at the start and may not be 0.
+// Where a digest starts.
+const BASIS: u64 = 0xCBF29CE484222325;
+
+// What buffers are made of and digests taken of: bytes and numbers.
+pub trait Element: Copy {
+    // The element that an output gives, and the digest h with the element x taken in.
+    ghost made_of: { ℕ → Self };
+
+    ghost taken: { ℕ → Self → ℕ };
+
+    fn made_of(output: u64) -> Self
+        ensures { result ≡ made_of output };
+
+    fn taken_into(self, h: u64) -> u64
+        ensures { result ≡ taken h self };
+}
+
+// The top eight bits of an output.
+impl Element for u8 {
+    ghost made_of = { top_byte };
+
+    ghost taken = { digest_with };
+
+    #[tactic(auto, unfolding(crate::specs::Generator::top_byte))]
+    fn made_of(output: u64) -> u8 {
+        (output >> 56) as u8
+    }
+
+    #[tactic(auto, unfolding(crate::specs::Digest::digest_with))]
+    fn taken_into(self, h: u64) -> u64 {
+        (h ^ u64::from(self)).wrapping_mul(0x100000001B3)
+    }
+}
+
+// A whole output; a digest takes in its eight bytes, the high one first.
+impl Element for u64 {
+    ghost made_of = { λ n. n };
+
+    ghost taken = { taken_number };
+
+    fn made_of(output: u64) -> u64 {
+        output
+    }
+
+    fn taken_into(self, h: u64) -> u64 {
+        digest_from(h, &self.to_be_bytes())
+    }
+}
+
+// The digest h takes in all of s.
+fn digest_from<E: Element>(h: u64, s: &[E]) -> u64
+    ensures { result ≡ fold E.taken h s.now }
+{
+    s.iter().fold(h, |h, x| x.taken_into(h))
+}
+
+// The digest of bytes, or of numbers.
+pub fn digest<E: Element>(s: &[E]) -> u64
+    ensures { result ≡ fold E.taken basis s.now }
+{
+    digest_from(BASIS, s)
+}
+
+// The generator, by its state: the seed at the start, which may not be 0.
 #[derive(Clone, Copy)]
 pub struct Generator {
     pub state: u64,
 }
 
-const HALF: u64 = 4294967296;
-
-// The product of two numbers without what does not fit into 64 bits, from the products of their halves.
-fn times(x: u64, y: u64) -> u64
-    ensures { result ≡ x * y % 2 ^ 64 }
-{
-    let low = x % HALF * (y % HALF);
-    let left = x / HALF * (y % HALF);
-    let right = x % HALF * (y / HALF);
-    (low / HALF + left % HALF + right % HALF) % HALF * HALF + low % HALF
-}
-
-// The generator at its start.
-pub fn start(seed: u64) -> Generator
-    ensures { result ≡ record { state = seed } }
-{
-    Generator { state: seed }
-}
-
-// One step.
-pub fn step(g: Generator) -> Generator
-    ensures { result ≡ record { state = next_state g.state } }
-{
-    let x = g.state;
-    let a = x ^ (x >> 12);
-    let b = a ^ (a << 25);
-    Generator {
-        state: b ^ (b >> 27),
+impl Generator {
+    // The generator at its start.
+    pub fn start(seed: u64) -> Generator
+        ensures { result ≡ record { state = seed } }
+    {
+        Generator { state: seed }
     }
-}
 
-// What the generator gives out in its state: all 64 bits.
-pub fn output(g: Generator) -> u64
-    ensures { result ≡ number g.state }
-{
-    times(g.state, 0x2545F4914F6CDD1D)
-}
-
-// The same as a number below m, from the upper half; 0 where m is 0.
-pub fn below(g: Generator, m: u64) -> u64
-    ensures { result ≡ number_below g.state m }
-{
-    if m == 0 {
-        return 0;
+    // One step.
+    #[tactic(auto, unfolding(crate::specs::Generator::next, crate::specs::Generator::right12, crate::specs::Generator::left25, crate::specs::Generator::right27))]
+    pub fn step(&mut self)
+        ensures { self.new ≡ record { state = next_state self.old.state } }
+    {
+        let x = self.state;
+        let a = x ^ (x >> 12);
+        let b = a ^ (a << 25);
+        self.state = b ^ (b >> 27);
     }
-    (output(g) >> 32) % m
-}
 
-// Fills out with bytes, each the top eight bits of one output after a step, and returns the generator as it then is.
-pub fn fill(g: Generator, out: &mut [u8]) -> Generator
-    ensures { Made bytes_from g out.old result out.new }
-{
-    let mut h = g;
-    for k in 0..out.len() {
-        h = step(h);
-        out[k] = (output(h) >> 56) as u8;
+    // What the generator gives out in its state: all 64 bits.
+    #[tactic(auto, unfolding(crate::specs::Generator::number))]
+    pub fn output(&self) -> u64
+        ensures { result ≡ number self.now.state }
+    {
+        self.state.wrapping_mul(0x2545F4914F6CDD1D)
     }
-    h
-}
 
-// The same with whole outputs.
-pub fn fill_numbers(g: Generator, out: &mut [u64]) -> Generator
-    ensures { Made numbers_from g out.old result out.new }
-{
-    let mut h = g;
-    for k in 0..out.len() {
-        h = step(h);
-        out[k] = output(h);
+    // The same as a number below m, from the upper half; 0 where m is 0.
+    pub fn below(&self, m: u64) -> u64
+        ensures { result ≡ number_below self.now.state m }
+    {
+        if m == 0 {
+            return 0;
+        }
+        (self.output() >> 32) % m
     }
-    h
-}
 
-// The digest h takes in a byte.
-fn take(h: u64, b: u64) -> u64
-    ensures { result ≡ digest_with h b }
-{
-    times(h ^ b, 0x100000001B3)
-}
-
-fn wide(b: u8) -> u64
-    ensures { result ≡ b }
-{
-    b as u64
-}
-
-// The digest of bytes.
-pub fn digest(s: &[u8]) -> u64
-    ensures { result ≡ digest_of s.now }
-{
-    let mut h: u64 = 0xCBF29CE484222325;
-    for k in 0..s.len() {
-        h = take(h, wide(s[k]));
+    // Fills out, each element of one output after a step.
+    pub fn fill<E: Element>(&mut self, out: &mut [E])
+        ensures { Made (made_by E.made_of) self.old out.old self.new out.new }
+    {
+        for x in out.iter_mut() {
+            self.step();
+            *x = E::made_of(self.output());
+        }
     }
-    h
-}
-
-// The digest h takes in a number, as eight bytes, the high one first.
-fn take_number(h: u64, x: u64) -> u64
-    ensures { result ≡ taken_number h x }
-{
-    let mut acc = h;
-    for j in 0..8u32 {
-        acc = take(acc, (x >> (56 - 8 * j)) % 256);
-    }
-    acc
-}
-
-// The digest of numbers.
-pub fn digest_numbers(s: &[u64]) -> u64
-    ensures { result ≡ digest_of_numbers s.now }
-{
-    let mut h: u64 = 0xCBF29CE484222325;
-    for k in 0..s.len() {
-        h = take_number(h, s[k]);
-    }
-    h
 }

@@ -3,7 +3,6 @@ use Prim.Native.Nat.{ℕ, ◌+◌, ◌-◌, ◌≤◌, ◌<◌}
 use mathlib.Core.Bool.{false, true}
 use mathlib.Core.Path.{◌≡◌, refl}
 use mathlib.Core.List.{List}
-use native.Mathlib.Nat.{sub-zero}
 use native.Mathlib.Omega.{arith}
 use borrow.Author.Tests.{lt-ltb, le-ltb}
 use lib.ListN.{length, take, drop}
@@ -22,11 +21,11 @@ room_short n b room cap p h q =
     record { told = rw short q; kept = rw short refl }
 
 pub room_coded : (n a b m0 : ℕ) (room cap : List ℕ) {r : Answer} {left : List ℕ} → a ≡ info_room n → b ≡ a + parity_room n → b ≤ length room → m0 ≡ first_number n
-    → Outcome (code_answer n m0 (take (a - 0) room) (take (b - a) (drop a room)) cap) (code_leaves n m0 (take (a - 0) room) (take (b - a) (drop a room)) cap) r left
+    → Outcome (code_answer n m0 (take a room) (take (b - a) (drop a room)) cap) (code_leaves n m0 (take a room) (take (b - a) (drop a room)) cap) r left
     → Outcome (room_answer n room cap) (room_leaves n room cap) r left
 unfolding room_answer room_leaves
 room_coded n a b m0 room cap p q h z o =
     let size : b - a ≡ parity_room n = omega arith in
     let long : too_short n room ≡ false = le-ltb (length room) (info_room n + parity_room n) (omega arith) in
-    let o = rw (sub-zero, size, p, z) at o in
+    let o = rw (size, p, z) at o in
     record { told = rw long o.told; kept = rw long o.kept }

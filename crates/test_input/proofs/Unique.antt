@@ -2,7 +2,7 @@
 -- pass here. Assumes nothing.
 use mathlib.Core.Path.{◌≡◌}
 use Rattle.prelude.proofs.Common.{only}
-use Rattle.answer.proofs.Meets.{only_outcome}
+use Rattle.answer.proofs.Results.{only_result}
 use Rattle.test_input.proofs.first_number.Reads as first-number
 use Rattle.test_input.proofs.fill.Reads as fill
 use Rattle.test_input.proofs.fill_room.Reads as fill-room
@@ -22,7 +22,7 @@ one_fill_room κs a x y s t p q = only p q
 -- the answer, and what is left in the capture
 pub one_code_room : (κs : _) (a : _) (x y : _) (s t : _) → code-room.Post κs a x s → code-room.Post κs a y t
     → (x ≡ y) × (s.1.1.0.now ≡ t.1.1.0.now)
-one_code_room κs a x y s t p q = only_outcome p q
+one_code_room κs a x y s t p q = only_result p q
 
 pub one_code : (κs : _) (a : _) (x y : _) (s t : _) → code.Post κs a x s → code.Post κs a y t → (x ≡ y) × (s.1.0.now ≡ t.1.0.now)
-one_code κs a x y s t p q = only_outcome p q
+one_code κs a x y s t p q = only_result p q

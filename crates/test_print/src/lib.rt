@@ -1,123 +1,59 @@
-// What the programs write, made of fixed words, decimal numbers and hexadecimal numbers of 16 digits. No contract can say what is written: the
-// programs are held to texts that a second program made.
+// What several programs write alike. No contract can say what is written: the programs are held to texts that a second program made.
 #![tactic(auto)]
 
-use answer::Answer;
+use answer::{Answer, Refused};
 use gmp::Kind;
 use std::io::{self, Write};
 
-pub fn text<W: Write>(out: &mut W, s: &[u8]) -> io::Result<()> {
-    out.write_all(s)
-}
-
-pub fn end<W: Write>(out: &mut W) -> io::Result<()> {
-    text(out, b"\n")
-}
-
-// A number in decimal, behind its name.
-pub fn number<W: Write>(out: &mut W, name: &[u8], n: u64) -> io::Result<()> {
-    text(out, name)?;
-    write!(out, "{n}")
-}
-
-// Words with a number in the place of each mark.
-pub fn form<W: Write>(out: &mut W, words: &[u8], numbers: &[u64]) -> io::Result<()> {
-    let mut k = 0;
-    for i in 0..words.len() {
-        k = form_byte(out, words[i], numbers, k)?;
+// A code word, byte by byte, behind its name.
+pub fn word<W: Write>(out: &mut W, name: &str, w: [u8; 16]) -> io::Result<()> {
+    write!(out, "{name}")?;
+    for x in &w {
+        write!(out, "{x:02x}")?;
     }
-    Ok(())
-}
-
-// One byte of it, and which number is the next.
-fn form_byte<W: Write>(out: &mut W, b: u8, numbers: &[u64], k: usize) -> io::Result<usize> {
-    if b != b'#' {
-        text(out, &[b])?;
-        return Ok(k);
-    }
-    if k < numbers.len() {
-        write!(out, "{}", numbers[k])?;
-        return Ok(k + 1);
-    }
-    Ok(k)
-}
-
-// A number in 16 hexadecimal digits, behind its name.
-pub fn hex<W: Write>(out: &mut W, name: &[u8], n: u64) -> io::Result<()> {
-    text(out, name)?;
-    write!(out, "{n:016x}")
-}
-
-// A byte in two hexadecimal digits.
-pub fn byte<W: Write>(out: &mut W, x: u8) -> io::Result<()> {
-    write!(out, "{x:02x}")
-}
-
-// A code word, byte by byte, ends what its name begins.
-pub fn word<W: Write>(out: &mut W, name: &[u8], w: [u8; 16]) -> io::Result<()> {
-    text(out, name)?;
-    for k in 0..sizes::WORD_BYTES {
-        byte(out, w[k])?;
-    }
-    end(out)
-}
-
-// Four bits.
-pub fn four_bits<W: Write>(out: &mut W, n: u8) -> io::Result<()> {
-    let digits = [48 + n / 8 % 2, 48 + n / 4 % 2, 48 + n / 2 % 2, 48 + n % 2];
-    text(out, &digits)
-}
-
-// Writes the run at place j where it is of stuff, and returns the place behind it.
-fn stuff_run<W: Write>(out: &mut W, c: u64, j: u64) -> io::Result<u64> {
-    let r = gmp::run(c, j);
-    let kind = r.kind;
-    if let Kind::Stuff = kind {
-        number(out, b" ", j)?;
-        number(out, b"-", r.last)?;
-    }
-    Ok(r.last % (sizes::PLACES + 1) + 1)
+    writeln!(out)
 }
 
 // The stuff among the first sixteen runs of a count: no row of 001 Table 7 has more.
 pub fn stuff_runs<W: Write>(out: &mut W, c: u64) -> io::Result<()> {
     let mut j = 1;
-    for i in 0..16u64 {
-        if j <= sizes::PLACES {
-            j = stuff_run(out, c, j)?;
-        }
+    for _ in 0..16u8 {
+        j = stuff_run(out, c, j)?;
     }
     Ok(())
 }
 
-// How many super frames a call is about.
-pub fn frames<W: Write>(out: &mut W, n: u64) -> io::Result<()> {
-    number(out, b"N ", n)
+// The run at place j, written where it is of stuff, and the place behind it; past the last place there is no run.
+fn stuff_run<W: Write>(out: &mut W, c: u64, j: u64) -> io::Result<u64> {
+    match gmp::run(c, j) {
+        Ok(run) => {
+            if run.kind == Kind::Stuff {
+                write!(out, " {j}-{}", run.last)?;
+            }
+            Ok(run.last.wrapping_add(1))
+        }
+        Err(_) => Ok(j),
+    }
 }
 
-// The digest of bytes, behind its name.
-pub fn digest<W: Write>(out: &mut W, name: &[u8], s: &[u8]) -> io::Result<()> {
-    hex(out, name, test_data::digest(s))
+// What a call answered, as the three numbers that C is handed, behind its name.
+pub fn outcome<W: Write>(
+    out: &mut W,
+    name: &str,
+    answered: Result<u64, Refused>,
+) -> io::Result<()> {
+    let a = Answer::from(answered);
+    write!(out, "{name}number {} place {} count {}", a.number, a.place, a.count)
 }
 
-// The three numbers that a call hands back.
-pub fn outcome<W: Write>(out: &mut W, name: &[u8], a: Answer) -> io::Result<()> {
-    text(out, name)?;
-    number(out, b"number ", a.number)?;
-    number(out, b" place ", a.place)?;
-    number(out, b" count ", a.count)
-}
-
-// Digests before and after a call, behind what they are of.
-pub fn change<W: Write>(out: &mut W, name: &[u8], before: u64, after: u64) -> io::Result<()> {
-    text(out, name)?;
-    hex(out, b" before ", before)?;
-    hex(out, b" after ", after)
+// Digests of what a buffer held before a call and holds after it, behind what it is of.
+pub fn change<W: Write>(out: &mut W, name: &str, before: u64, after: u64) -> io::Result<()> {
+    write!(out, "{name} before {before:016x} after {after:016x}")
 }
 
 // Digests of information and parity end a line.
-pub fn inputs<W: Write>(out: &mut W, info: u64, parity: u64) -> io::Result<()> {
-    hex(out, b" information ", info)?;
-    hex(out, b" parity ", parity)?;
-    end(out)
+pub fn inputs<W: Write>(out: &mut W, info: &[u8], parity: &[u8]) -> io::Result<()> {
+    let info = test_data::digest(info);
+    let parity = test_data::digest(parity);
+    writeln!(out, " information {info:016x} parity {parity:016x}")
 }

@@ -6,7 +6,7 @@ use Rattle.test_input.proofs.code_room.Goals as goal
 pub returns-then-room-b : goal.returns-then-room-b
 returns-then-room-b c = let a = c.args in
     room_short a.n _ a.room.now a.capture.now (rw (c.information-a.ensures.is, c.parity.ensures.is) refl) c.if-room-b.true
-    (rw (← c.buffer_place.ensures) c.refuse.ensures)
+    (rw (c.at.ensures, c.buffer_place.ensures) refl)
 
 pub returns : goal.returns
 returns c = let o = c.code.ensures in

@@ -1,8 +1,8 @@
--- `test_data::below` meets its contract. Assumes nothing.
+-- `test_data::Generator::below` meets its contract. Assumes nothing.
 use borrow.Author.Tests.{eq-eqb, ne_eqb}
 use Rattle.test_data.specs.Generator.{below}
 use borrow.Author.Rules.{rules}
-use Rattle.test_data.proofs.below.Goals as goal
+use Rattle.test_data.proofs.Generator.below.Goals as goal
 
 pub returns-then-m-eq0 : goal.returns-then-m-eq0
 unfolding below
