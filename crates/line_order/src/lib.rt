@@ -122,8 +122,8 @@ pub fn checks_in(t: &[u16; 4096], capture: &[u8], w: usize) -> u16
 // ---- a word put in
 
 // Puts the sixteen symbols of word w to their places where the capture has the whole of its group.
-// Kept: beside `put_tested`, whose loop is one call: one loop over a closure that writes would ask of it, at each call, that the capture
-// keeps its length.
+// Kept: beside `put_tested`. One loop over a closure that gives places would take two functions more, a place inside as a `Some` and a byte
+// put to an `Option` of a place, to spare one of these two loops of one line.
 fn put_inside(capture: &mut [u8], w: usize, v: [u8; 16])
     requires { w / group_words < length capture.old / group_size }
     ensures { capture.new ≡ put_word capture.old w v }
