@@ -20,8 +20,8 @@ pub fn bit_at(s: &[u8], i: usize) -> u8
 }
 
 // A byte as a wider number: the one place where a byte's bound is shown.
-// Kept: the clause of u32::from says only that the number is the same; this one says too that it is below 256, on which the proofs of
-// read::follow and archive::field::number_at rest.
+// Kept: u32::from promises the same number and no more; `Widened.small`, that it is below 256, is what the answers of `follow` in read and
+// of `number_at` in archive cite.
 pub fn wide(x: u8) -> u32
     ensures { Widened x result }
 {

@@ -33,6 +33,7 @@ pub fn take(r: u32, b: u8) -> u32
 }
 
 // What a·b leaves: Horner's rule, the digits of b from the top.
+// Kept: here and in `entry` j counts the digits of a number, which are in no slice.
 fn multiply(a: u32, b: u32) -> u32
     ensures { result ≡ product width poly a b }
 {

@@ -26,6 +26,7 @@ pub struct Repaired {
 
 impl Found {
     // The refusal that a repair comes to, by document 01's numbers.
+    // Kept: a number, 0 where there is no refusal: `found_number`, in which read_spec's `is_beyond` is stated, and `one_number` say it so.
     pub fn number(self) -> u8
         ensures { result ≡ found_number self }
     {
@@ -65,6 +66,7 @@ fn digit_of(x: u8, j: usize) -> u8
 }
 
 // What byte k of a word adds to the checks where it is x.
+// Kept: j counts the digits of a byte, which are in no slice.
 fn byte_sum(t: &[u16; 128], k: usize, x: u8) -> u16
     requires { (t.now ≡ columns) × (k < word_bytes) }
     ensures { result ≡ byte_sum k x }
@@ -135,6 +137,7 @@ fn flipped(w: [u8; 16], i: usize) -> [u8; 16]
 }
 
 // The word where its checks are c and i is the bit whose column they are.
+// Kept: an i of 128 or more is no bit: the definition `repair_at`, its theorem `one_repair_at` and the table of `position_of` take it so.
 pub fn repair_at(w: [u8; 16], c: u16, i: u8) -> Repaired
     ensures { result ≡ repair_at w c i }
 {

@@ -28,6 +28,7 @@ pub fn tail_table() -> [u16; 512]
 }
 
 // The bit by its column; 128 where no column is.
+// Kept: 128 and not an Option: the definitions `position_table` and `position_of`, on which `one_position_table` and `repair_of` rest, say it.
 pub fn position_table() -> [u8; 512]
     ensures { result ≡ position_table }
 {

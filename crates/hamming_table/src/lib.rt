@@ -9,6 +9,9 @@ ghost use Rattle.hamming_table.specs.Steps.{EntriesBegun, Doubles, byte_table, s
 
 use hamming::Repaired;
 
+// Kept: `double`, `fill_row` and `byte_table` count: `double` reads one place of the table in each turn and writes another of the same
+// table, `fill_row` goes from the last of eight columns back to the first, and `byte_table` hands the number of the row on.
+
 // The entries from at + n on, out of the n before them: each has one bit more, whose column is c.
 fn double(t: &mut [u16; 4096], at: usize, n: usize, c: u16)
     requires { (at + 2 * n ≤ 256 * word_bytes) × Doubles at n c × EntriesBegun (at + n) t.old }
@@ -52,6 +55,7 @@ fn entry_at(t: &[u16], c: u16) -> u16
 }
 
 // The sum of a table's entries for the bytes of a word: with the table of `byte_table`, the nine checks.
+// Kept: any array, and no struct that is the table of `byte_table` alone: `sum_by_tables` promises the sum for every table that is lent.
 pub fn checks_by(t: &[u16; 4096], w: [u8; 16]) -> u16
     ensures { result ≡ sum_by_tables t.now w }
 {

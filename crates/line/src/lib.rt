@@ -68,7 +68,8 @@ pub fn slot(e: u32) -> usize
     e as usize + wait(e as usize)
 }
 
-// The element that word w holds, if it holds one.
+// The element that word w holds, if it holds one (`holds_element`); 0 where it comes too early for any.
+// Kept: no Option: `one_element_in`, and `listed` and `remade` of edit_spec, speak of this number for every word.
 pub fn element_in(w: usize) -> usize
     ensures { result ≡ element_in w }
 {

@@ -96,6 +96,7 @@ pub fn word_in(capture: &[u8], w: usize) -> [u8; 16]
 }
 
 // The checks of word w where the capture has the whole of its group.
+// Kept: the loop of `hamming_table::checks_by` over symbols that stand eight bytes apart: that one takes a word, which this spares making.
 fn checks_inside(t: &[u16; 4096], capture: &[u8], w: usize) -> u16
     requires { w / group_words < length capture.now / group_size }
     ensures { result ≡ sum_by_tables t.now (word_in capture.now w) }
@@ -121,6 +122,8 @@ pub fn checks_in(t: &[u16; 4096], capture: &[u8], w: usize) -> u16
 // ---- a word put in
 
 // Puts the sixteen symbols of word w to their places where the capture has the whole of its group.
+// Kept: beside `put_tested`. One loop over a closure that gives places would take two functions more, a place inside as a `Some` and a byte
+// put to an `Option` of a place, to spare one of these two loops of one line.
 fn put_inside(capture: &mut [u8], w: usize, v: [u8; 16])
     requires { w / group_words < length capture.old / group_size }
     ensures { capture.new ≡ put_word capture.old w v }

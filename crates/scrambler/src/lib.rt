@@ -35,13 +35,14 @@ fn begin(out: &mut [u8], m: usize)
     ensures { Opened m out.old out.new }
 {
     let mut s = START;
-    for k in 0..m {
-        out[k] = (s / 256) as u8;
+    for x in out[..m].iter_mut() {
+        *x = (s / 256) as u8;
         s = next8(s);
     }
 }
 
 // The bytes 16 s .. m - 1, each the sum of four before it: the rule, taken at a stride of s bytes.
+// Kept: a byte is written and four others of the same slice are read, of which some were written s turns before: `iter_mut` lends them all.
 fn go_on(out: &mut [u8], s: usize, m: usize)
     requires { (1 ≤ s) × (Rule (8 * s)) × (16 * s ≤ m) × (m ≤ length out.old) × (SequenceBegun (16 * s) out.old) }
     ensures { (SequenceBegun m out.new) × (length out.new ≡ length out.old) }

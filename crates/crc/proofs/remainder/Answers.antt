@@ -1,6 +1,6 @@
 -- `remainder` meets its contract: the bytes are folded in. Assumes nothing.
 use native.Mathlib.Omega.{arith}
-use Rattle.prelude.proofs.LoopLaws.{folded_none, folded_more, loops}
+use Rattle.prelude.proofs.LoopLaws.{folded_more, loops}
 use Rattle.crc.specs.Steps.{byte_step}
 use Rattle.crc.proofs.remainder.Goals as goal
 

@@ -1,5 +1,4 @@
 -- `line::element_in` meets its contract. Assumes nothing.
-use native.Mathlib.Omega.{arith}
 use Rattle.line.specs.Slots.{element_in}
 use Rattle.line.proofs.element_in.Goals as goal
 

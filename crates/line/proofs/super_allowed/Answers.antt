@@ -1,10 +1,4 @@
 -- `line::super_allowed` meets its contract. Assumes nothing.
-use Prim.Native.Nat.{ℕ, ◌≤◌}
-use mathlib.Core.Bool.{Bool, true, false, ◌&&◌}
-use mathlib.Core.Path.{◌≡◌, sym, ◌∙◌}
-use native.Mathlib.Omega.{arith}
-use lib.Dec.{leb}
-use Rattle.sizes.specs.Sizes.{most_frames}
 use borrow.Author.Rules.{rules}
 use Rattle.prelude.proofs.LoopLaws.{tests}
 use Rattle.line.specs.Captures.{super_allowed}

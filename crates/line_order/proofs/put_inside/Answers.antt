@@ -10,14 +10,8 @@ use Rattle.line_order.proofs.OrderLaws.{place_group}
 use Rattle.line_order.specs.Steps.{put_symbol_by, put_by}
 use Rattle.line_order.proofs.put_inside.Goals as goal
 
-pub overflow_mul-group : goal.overflow_mul-group
-overflow_mul-group c = omega arith
-
 pub loop-s-init : goal.loop-s-init
 loop-s-init c = (folded_none, refl, omega arith)
-
-pub bounds-x-items-s : goal.bounds-x-items-s
-bounds-x-items-s c = omega arith
 
 pub in_group-requires : goal.in_group-requires
 in_group-requires c = (omega arith, omega arith)
@@ -30,12 +24,6 @@ pub bounds-capture-group : goal.bounds-capture-group
 unfolding symbol_place
 bounds-capture-group c = omega (arith, c.in_group.ensures)
 
-pub overflow_step-s : goal.overflow_step-s
-overflow_step-s c = omega arith
-
-pub loop-s-smaller : goal.loop-s-smaller
-loop-s-smaller c = omega arith
-
 pub loop-s-preserved : goal.loop-s-preserved
 unfolding put_symbol_by the_line_order
 loop-s-preserved c = let l = c.loop-s in
@@ -45,9 +33,6 @@ loop-s-preserved c = let l = c.loop-s in
       simp length-set l.invariant.1,
       omega arith,
     )
-
-pub shape_of-capture : goal.shape_of-capture
-shape_of-capture c = omega arith
 
 pub returns : goal.returns
 unfolding put_by

@@ -11,26 +11,11 @@ use Rattle.line_order.proofs.put_tested.Goals as goal
 pub loop-k-init : goal.loop-k-init
 loop-k-init c = (folded_none, refl, omega arith)
 
-pub bounds-x-items-k : goal.bounds-x-items-k
-bounds-x-items-k c = omega arith
-
-pub put_symbol-requires : goal.put_symbol-requires
-put_symbol-requires c = omega arith
-
-pub overflow_step-k : goal.overflow_step-k
-overflow_step-k c = omega arith
-
-pub loop-k-smaller : goal.loop-k-smaller
-loop-k-smaller c = omega arith
-
 pub loop-k-preserved : goal.loop-k-preserved
 unfolding put_symbol_by the_line_order
 loop-k-preserved c = let i = c.loop-k.invariant in
     let e = c.put_symbol.ensures in
     (folded_more i.0 e, rw e (simp length-set i.1), omega arith)
-
-pub shape_of-capture : goal.shape_of-capture
-shape_of-capture c = omega arith
 
 pub returns : goal.returns
 unfolding put_by

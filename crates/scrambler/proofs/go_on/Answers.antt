@@ -9,53 +9,8 @@ use Rattle.scrambler.specs.Scrambler.{o}
 use Rattle.scrambler.proofs.Strides.{next_sum, opened_begun}
 use Rattle.scrambler.proofs.go_on.Goals as goal
 
-pub overflow_step-k : goal.overflow_step-k
-overflow_step-k c = omega arith
-
 pub loop-k-init : goal.loop-k-init
 loop-k-init c = let b = c.requires.4 in (omega arith, c.requires.2, record { within = b.within; len = refl; is = b.is })
-
-pub overflow_sub-out : goal.overflow_sub-out
-overflow_sub-out c = omega arith
-
-pub bounds-out-k : goal.bounds-out-k
-bounds-out-k c = omega arith
-
-pub overflow_mul-out : goal.overflow_mul-out
-overflow_mul-out c = omega arith
-
-pub overflow_sub-out-in-loop-k : goal.overflow_sub-out-in-loop-k
-overflow_sub-out-in-loop-k c = omega arith
-
-pub bounds-out-k-in-loop-k : goal.bounds-out-k-in-loop-k
-bounds-out-k-in-loop-k c = omega arith
-
-pub overflow_mul-out-in-loop-k : goal.overflow_mul-out-in-loop-k
-overflow_mul-out-in-loop-k c = omega arith
-
-pub overflow_sub-out-in-loop-k-2 : goal.overflow_sub-out-in-loop-k-2
-overflow_sub-out-in-loop-k-2 c = omega arith
-
-pub bounds-out-k-in-loop-k-2 : goal.bounds-out-k-in-loop-k-2
-bounds-out-k-in-loop-k-2 c = omega arith
-
-pub overflow_mul-out-in-loop-k-2 : goal.overflow_mul-out-in-loop-k-2
-overflow_mul-out-in-loop-k-2 c = omega arith
-
-pub overflow_sub-out-in-loop-k-3 : goal.overflow_sub-out-in-loop-k-3
-overflow_sub-out-in-loop-k-3 c = omega arith
-
-pub bounds-out-k-in-loop-k-3 : goal.bounds-out-k-in-loop-k-3
-bounds-out-k-in-loop-k-3 c = omega arith
-
-pub bounds-out-k-in-loop-k-4 : goal.bounds-out-k-in-loop-k-4
-bounds-out-k-in-loop-k-4 c = omega arith
-
-pub overflow_step-k-in-loop-k : goal.overflow_step-k-in-loop-k
-overflow_step-k-in-loop-k c = omega arith
-
-pub loop-k-smaller : goal.loop-k-smaller
-loop-k-smaller c = omega arith
 
 pub loop-k-preserved : goal.loop-k-preserved
 loop-k-preserved c = let h = c.loop-k in
