@@ -1,14 +1,15 @@
 -- Where data group q of a window stands: the place by one division, and what stands there. Assumes nothing.
 use Prim.Native.Nat.{ℕ, zero, suc, ◌+◌, ◌-◌, ◌*◌, ◌/◌, ◌≤◌, ◌<◌}
 use mathlib.Core.Bool.{true, false}
-use mathlib.Core.Path.{◌≡◌, sym, ap, ◌∙◌}
+use mathlib.Core.Path.{◌≡◌, refl, sym, ap, ◌∙◌}
+use Rattle.std.specs.Prelude.{Some, None}
 use native.Mathlib.Nat.{le-div_iff_mul-le, div-lt_iff_lt-mul, mul-zero}
 use native.Mathlib.Numerals.{add-one}
 use native.Mathlib.Omega.{arith}
 use borrow.Author.Tests.{lt-ltb, le-ltb, ltb-true, ltb-false}
 use lib.Dec.{ltb}
 use Rattle.prelude.proofs.Common.{by_bound}
-use Rattle.prelude.proofs.LoopLaws.{First, first_holds, first_is, first_none}
+use Rattle.prelude.proofs.LoopLaws.{First, first_holds, first_is}
 use Rattle.gmp.specs.Places.{is_data, data_from}
 use Rattle.gmp_window.specs.Windows.{Window}
 use Rattle.gmp_map.specs.Groups.{group_place}
@@ -16,9 +17,9 @@ use Rattle.gmp_map.specs.Steps.{GroupAt}
 use Rattle.gmp.proofs.Counts.{before_product}
 use Rattle.gmp_window.proofs.Allowed.{stretch_of}
 use Rattle.gmp_window.proofs.Judging.{data_window}
-use Rattle.sizes.specs.Sizes.{places}
+use Rattle.sizes.specs.Sizes.{places, group_bits}
 use Rattle.gmp.specs.Steps.{data_in}
-use Rattle.gmp.proofs.Floor.{before, data_split, data_le, data_more, data_grows, data_mono}
+use Rattle.gmp.proofs.Floor.{before, data_split, data_le, data_more, data_grows}
 
 -- ---- a quotient rounded up
 
@@ -39,11 +40,6 @@ module _ (x y c : ℕ) (p : 0 < c) where
   gt_ceil h = omega (arith, next, (le-div_iff_mul-le p).0 h)
 
 -- ---- the place
-
--- no such group
-place_none : (c f n q : ℕ) → data_from c f n ≤ q → group_place c f n q ≡ n
-unfolding group_place
-place_none c f n q h = first_none (λ m. ltb q (data_from c f (suc m))) n (λ k l. le-ltb q (data_from c f (suc k)) (omega (arith, data_mono c f (suc k) n l)))
 
 module _ (c f n q : ℕ) (w : Window c f n) (some : q < data_from c f n) where
   abbrev x : ℕ
@@ -92,14 +88,18 @@ place_le : (c f n q : ℕ) → group_place c f n q ≤ n
 unfolding group_place
 place_le c f n q = (first_holds (λ m. ltb q (data_from c f (suc m))) n).within
 
-group_at : (c f n q : ℕ) {x : ℕ} → Window c f n → x ≡ group_place c f n q → GroupAt c f n q x
-group_at c f n q w e = record { is = e; within = omega (arith, place_le c f n q, w.odd, w.two, w.to) }
+few_bits : (c f n q : ℕ) → Window c f n → group_bits * group_place c f n q ≤ group_bits * places
+few_bits c f n q w = omega (arith, place_le c f n q, w.odd, w.two, w.to)
 
-pub no_group : (c f n q : ℕ) {d : ℕ} → Window c f n → d ≡ data_in c f n → d ≤ q → GroupAt c f n q n
-no_group c f n q w e h = group_at c f n q w (sym (place_none c f n q (omega (arith, data_window c f n w))))
+pub no_group : (c f n q : ℕ) {d : ℕ} → Window c f n → d ≡ data_in c f n → d ≤ q → GroupAt c f n q None
+no_group c f n q w e h = record { is = rw (le-ltb q (data_from c f n) (omega (arith, data_window c f n w))) refl; placed = tt }
 
-pub some_group : (c f n q : ℕ) {d : ℕ} → Window c f n → d ≡ data_in c f n → q < d → GroupAt c f n q ((((f - 1) * c / places + q + 1) * places + (c - 1)) / c - f)
-some_group c f n q w e h = group_at c f n q w (sym (place_is c f n q w (omega (arith, data_window c f n w))))
+pub some_group : (c f n q : ℕ) {d : ℕ} → Window c f n → d ≡ data_in c f n → q < d
+    → GroupAt c f n q (Some (group_bits * ((((f - 1) * c / places + q + 1) * places + (c - 1)) / c - f)))
+some_group c f n q w e h =
+    let m : q < data_from c f n = omega (arith, data_window c f n w) in
+    let p = place_is c f n q w m in
+    record { is = rw (lt-ltb q (data_from c f n) m, p) refl; placed = rw p at (few_bits c f n q w) }
 
 -- why the code's steps fit
 pub record Located (c f q : ℕ) : Type 0 where

@@ -9,6 +9,7 @@ use native.Mathlib.Omega.{arith}
 use borrow.Author.Tests.{ltb-true, ltb-false, eq-eqb, eqb-true, not-false}
 use lib.Dec.{ltb, eqb}
 use lib.ListN.{length}
+use Rattle.std.specs.Bool.{then_some}
 use Rattle.bits.specs.Bits.{num, digit, bit_at, pack, Bits, Bytes}
 use Rattle.bits.proofs.Numbers.{digit-num}
 use Rattle.bits.proofs.Packing.{bit_of_lt, bit_of-packs, packs-bit_of, packs_ext, length-packs}
@@ -23,7 +24,7 @@ use Rattle.gmp_window.specs.Windows.{Window, groups_spare_set}
 use Rattle.gmp_map.specs.Groups.{window_bit, group_place, groups_bit}
 use Rattle.gmp_map.specs.RoundTrip.{back_answer, map_unmap_answer, map_unmap_leaves}
 use Rattle.gmp_window.specs.Answers.{map_answer, unmap_rows, unmap_answer}
-use Rattle.gmp_map.proofs.Pairs.{piece_lt}
+use Rattle.gmp_map.proofs.Pairs.{piece_lt, piece_if}
 use Rattle.gmp_map.proofs.Ranks.{Stands, stands}
 use Rattle.sizes.specs.Sizes.{group_bits, pair_bytes, group_bytes, window_bytes}
 use Rattle.gmp_map.specs.Steps.{MapUnmap, refused_first, went_on}
@@ -31,7 +32,10 @@ use Rattle.gmp_window.proofs.Judging.{MapTaken, map_taken}
 
 window_lt : (c f : ℕ) (g : List ℕ) → Bits (window_bit c f g)
 unfolding window_bit
-window_lt c f g i = piece_lt g (is_data c (f + i / group_bits)) (group_bits * data_from c f (i / group_bits) + i % group_bits)
+window_lt c f g i =
+    let a = group_bits * data_from c f (i / group_bits) in
+    let b = is_data c (f + i / group_bits) in
+    rw (piece_if g b a (i % group_bits)) at (piece_lt g (then_some b a) (i % group_bits))
 
 -- bit r of data group q, at its place in the window
 at_place_law : (c f n : ℕ) (g : List ℕ) (q r m : ℕ) → r < group_bits → Stands c f n q m → window_bit c f g (group_bits * m + r) ≡ bit_at g (group_bits * q + r)

@@ -1,7 +1,7 @@
 // Data groups go into the data places of a window, and come back: document 01, "GMP places".
 #![tactic(auto)]
 
-ghost use Rattle.std.specs.Prelude.{◌≡◌, ◌+◌, ◌*◌, ◌/◌, ◌≤◌, ◌<◌, min, length};
+ghost use Rattle.std.specs.Prelude.{◌≡◌, ◌+◌, ◌*◌, ◌/◌, ◌≤◌, ◌<◌, length};
 ghost use Rattle.prelude.specs.Lists.{tabulate};
 ghost use Rattle.bits.specs.Bits.{num, byte_of, pack};
 ghost use Rattle.answer.specs.Refusals.{answered};
@@ -10,7 +10,7 @@ ghost use Rattle.gmp.specs.Steps.{DataIn};
 ghost use Rattle.gmp_window.specs.Windows.{Window};
 ghost use Rattle.sizes.specs.Sizes.{places, group_bits, pair_bytes, group_bytes, window_bytes};
 ghost use Rattle.gmp_map.specs.Groups.{window_bit, groups_bit, Mapped, Unmapped};
-ghost use Rattle.gmp_map.specs.Steps.{GroupAt, piece, pair_bit};
+ghost use Rattle.gmp_map.specs.Steps.{GroupAt, Placed, piece, pair_bit};
 
 use answer::Refused;
 use sizes::{GROUP_BITS, PAIR_BYTES, PLACES};
@@ -33,34 +33,38 @@ pub fn unmap(c: u64, f: u64, n: u64, window: &[u8], groups: &mut [u8]) -> Result
     Ok(d)
 }
 
-// Eight bits of s from bit `at` on, or zeros where they are not wanted.
-fn eight(s: &[u8], on: bool, at: usize) -> u8
-    ensures { result ≡ num 8 (piece s.now on) at }
+// Eight bits of a piece of s from its bit i on; the piece stands from bit `at` on, or there is none, and the bits are zero.
+fn eight(s: &[u8], at: Option<usize>, i: usize) -> u8
+    requires { Placed at × (i ≤ group_bits) }
+    ensures { result ≡ num 8 (piece s.now at) i }
 {
-    if on { bits::byte_from(s, at) } else { 0 }
+    match at {
+        Some(from) => bits::byte_from(s, from + i),
+        None => 0,
+    }
 }
 
-// Byte k of two pieces, which stand at bits a and b of s. They meet in the middle of byte 128.
-fn pair_byte(s: &[u8], first: bool, a: usize, second: bool, b: usize, k: usize) -> u8
-    requires { (a ≤ group_bits * places) × (b ≤ group_bits * places) × (k < pair_bytes) }
-    ensures { result ≡ byte_of (pair_bit s.now first a second b) k }
+// Byte k of two pieces of s. They meet in the middle of byte 128.
+fn pair_byte(s: &[u8], first: Option<usize>, second: Option<usize>, k: usize) -> u8
+    requires { Placed first × Placed second × (k < pair_bytes) }
+    ensures { result ≡ byte_of (pair_bit s.now first second) k }
 {
     if k < 128 {
-        return eight(s, first, a + 8 * k);
+        return eight(s, first, 8 * k);
     }
     if 128 < k {
-        return eight(s, second, b + (8 * k - GROUP_BITS));
+        return eight(s, second, 8 * k - GROUP_BITS);
     }
-    eight(s, first, a + 1024) / 16 * 16 + eight(s, second, b) / 16
+    eight(s, first, 1024) / 16 * 16 + eight(s, second, 0) / 16
 }
 
 // The bytes of two pieces, or as many of them as there is room for.
-fn fill_pair(s: &[u8], first: bool, a: usize, second: bool, b: usize, out: &mut [u8])
-    requires { (a ≤ group_bits * places) × (b ≤ group_bits * places) × (length out.old ≤ pair_bytes) }
-    ensures { out.new ≡ pack (length out.old) (pair_bit s.now first a second b) }
+fn fill_pair(s: &[u8], first: Option<usize>, second: Option<usize>, out: &mut [u8])
+    requires { Placed first × Placed second × (length out.old ≤ pair_bytes) }
+    ensures { out.new ≡ pack (length out.old) (pair_bit s.now first second) }
 {
-    for k in 0..out.len() {
-        out[k] = pair_byte(s, first, a, second, b, k);
+    for (k, byte) in out.iter_mut().enumerate() {
+        *byte = pair_byte(s, first, second, k);
     }
 }
 
@@ -74,14 +78,9 @@ fn fill_places(c: u64, f: u64, n: u64, p: usize, groups: &[u8], out: &mut [u8])
     let x = gmp::data_in(c, f, m);
     let y = gmp::data_in(c, f, m + 1);
     let z = gmp::data_in(c, f, m + 2);
-    fill_pair(
-        groups,
-        x < y,
-        GROUP_BITS * (x as usize),
-        y < z,
-        GROUP_BITS * (y as usize),
-        out,
-    );
+    let first = (x < y).then_some(GROUP_BITS * (x as usize));
+    let second = (y < z).then_some(GROUP_BITS * (y as usize));
+    fill_pair(groups, first, second, out);
 }
 
 // All places of a window, two by two.
@@ -95,15 +94,16 @@ fn fill_window(c: u64, f: u64, n: u64, groups: &[u8], window: &mut [u8])
     }
 }
 
-// The place of data group q of a window with d of them, counted from f; n where there is no such group.
-fn group_place(c: u64, f: u64, n: u64, d: u64, q: u64) -> u64
+// Where data group q of a window with d of them stands: the first bit of its place, counted from place f; none where there is no such group.
+fn group_piece(c: u64, f: u64, n: u64, d: u64, q: u64) -> Option<usize>
     requires { Window c f n × DataIn c f n d }
     ensures { GroupAt c f n q result }
 {
     if d <= q {
-        return n;
+        return None;
     }
-    (((f - 1) * c / PLACES + q + 1) * PLACES + (c - 1)) / c - f
+    let place = (((f - 1) * c / PLACES + q + 1) * PLACES + (c - 1)) / c - f;
+    Some(GROUP_BITS * (place as usize))
 }
 
 // Groups 2 p and 2 p + 1 of a window with d of them.
@@ -112,16 +112,9 @@ fn fill_two(c: u64, f: u64, n: u64, d: u64, p: usize, window: &[u8], out: &mut [
     ensures { out.new ≡ tabulate (length out.old) (λ k. byte_of (groups_bit c f n window.now) (pair_bytes * p + k)) }
 {
     let q = 2 * (p as u64);
-    let a = GROUP_BITS * (group_place(c, f, n, d, q) as usize);
-    let b = GROUP_BITS * (group_place(c, f, n, d, q + 1) as usize);
-    fill_pair(window, q < d, a, q + 1 < d, b, out);
-}
-
-// The smaller of two numbers.
-fn least(a: usize, b: usize) -> usize
-    ensures { result ≡ min a b }
-{
-    if a < b { a } else { b }
+    let first = group_piece(c, f, n, d, q);
+    let second = group_piece(c, f, n, d, q + 1);
+    fill_pair(window, first, second, out);
 }
 
 // All groups of a window, two by two. An odd one at the end has half a byte more than 128, and zeros behind it.
@@ -132,7 +125,7 @@ fn fill_groups(c: u64, f: u64, n: u64, window: &[u8], groups: &mut [u8])
     let d = gmp::data_in(c, f, n);
     for p in 0..((d + 1) / 2) as usize {
         let at = PAIR_BYTES * p;
-        let end = least(at + PAIR_BYTES, groups.len());
+        let end = groups.len().min(at + PAIR_BYTES);
         fill_two(c, f, n, d, p, window, &mut groups[at..end]);
     }
 }

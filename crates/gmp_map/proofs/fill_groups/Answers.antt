@@ -21,8 +21,8 @@ overflow_mul-at c = omega arith
 pub overflow_add-at : goal.overflow_add-at
 overflow_add-at c = omega arith
 
-pub least-end-requires : goal.least-end-requires
-least-end-requires c = omega arith
+pub min-end-requires : goal.min-end-requires
+min-end-requires c = omega arith
 
 pub slice_bounds-fill_two-count : goal.slice_bounds-fill_two-count
 slice_bounds-fill_two-count c = omega (arith, data_window _ _ _ c.requires.0)
@@ -44,7 +44,7 @@ loop-p-smaller c = omega arith
 
 pub loop-p-preserved : goal.loop-p-preserved
 loop-p-preserved c = let t = c.loop-p in
-    let e = c.least-end.result in
+    let e = c.min-end.result in
     let w = data_window _ _ _ c.requires.0 in
     let at = pair_bytes * t.p in
     let l : length (take (e - at) (drop at t.groups)) ≡ e - at = simp (length-take, length-drop) (omega arith) in

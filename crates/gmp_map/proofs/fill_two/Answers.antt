@@ -5,4 +5,4 @@ use Rattle.gmp_map.proofs.fill_two.Goals as goal
 
 pub returns : goal.returns
 returns c = let a = c.args in
-    search (groups_pair a.c a.f a.n a.window.now a.p (length a.out.now))
+    groups_pair a.c a.f a.n a.window.now a.p (length a.out.now) c.group_piece-first.ensures c.group_piece-second.ensures c.requires.3 c.fill_pair.ensures
