@@ -90,8 +90,8 @@ fn block_crcs(n: usize, info: &[u8]) -> [u32; MOST_BLOCKS]
 {
     let table = crc::table();
     let mut crcs = [0u32; MOST_BLOCKS];
-    for t in 0..sizes::FEC_BLOCKS * n {
-        crcs[t] = block_crc(&table, info, t);
+    for (t, crc) in crcs[..sizes::FEC_BLOCKS * n].iter_mut().enumerate() {
+        *crc = block_crc(&table, info, t);
     }
     crcs
 }
@@ -143,8 +143,8 @@ impl Coder<'_> {
         ensures { result ≡ tabulate 8 (from_index (words_of self.now.n (fec_bit self.now.m0 self.now.info.now self.now.parity.now)) (8 * g)) }
     {
         let mut words = [[0u8; 16]; 8];
-        for j in 0..sizes::GROUP_WORDS {
-            words[j] = self.word(sizes::GROUP_WORDS * g + j);
+        for (j, word) in words.iter_mut().enumerate() {
+            *word = self.word(sizes::GROUP_WORDS * g + j);
         }
         words
     }
@@ -197,8 +197,8 @@ fn tail_element(crc: u32, mbas: u8, parity: &[u8], at: usize) -> [u8; 16]
     ensures { result ≡ pack word_bytes (tail_bit crc mbas (from_index (bit_at parity.now) at)) }
 {
     let mut r = [0u8; 16];
-    for k in 0..sizes::WORD_BYTES {
-        r[k] = tail_byte(crc, mbas, parity, at, k);
+    for (k, byte) in r.iter_mut().enumerate() {
+        *byte = tail_byte(crc, mbas, parity, at, k);
     }
     r
 }

@@ -7,4 +7,4 @@ use Rattle.line.specs.Words.{words_of}
 use Rattle.code.proofs.Coder.group.Given as goal
 
 abbrev pub invariant-loop-j : goal.invariant-loop-j
-invariant-loop-j l = Filled l.j (from_index (words_of l.self.n (fec_bit l.self.m0 l.self.info.now l.self.parity.now)) (8 * l.g)) l.initial.words l.words
+invariant-loop-j l = Filled l.j (from_index (words_of l.self.n (fec_bit l.self.m0 l.self.info.now l.self.parity.now)) (8 * l.g)) l.initial.word-items l.word-items
