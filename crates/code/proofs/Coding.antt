@@ -1,13 +1,12 @@
 -- From an element to its word, from words to their group, from groups to the capture. Assumes nothing.
 use Prim.Native.Nat.{ℕ, ◌+◌, ◌*◌, ◌%◌}
 use mathlib.Core.Bool.{true, false}
-use mathlib.Core.Path.{◌≡◌, refl, sym, ap, ◌∙◌}
+use mathlib.Core.Path.{◌≡◌, sym, ap, ◌∙◌}
 use mathlib.Core.List.{List}
 use native.Mathlib.Omega.{arith}
 use lib.ListN.{length, replicate}
 use Rattle.prelude.specs.Lists.{tabulate, from_index}
 use Rattle.bits.specs.Bits.{bit_at, pack, added}
-use Rattle.prelude.proofs.Lists.{length-tabulate, is_table}
 use Rattle.hamming_matrix.specs.Steps.{tail_table}
 use Rattle.line_order.specs.Steps.{laid_group}
 use Rattle.hamming_table.specs.Steps.{byte_table, word_by_tables}
@@ -26,7 +25,7 @@ use Rattle.line.specs.Slots.{element_in, holds, slot_bit}
 use Rattle.line.specs.Words.{words_of}
 use Rattle.line.proofs.SlotLaws.{filler_bit, held_bit}
 use Rattle.code.specs.Code.{capture_of}
-use Rattle.code.specs.Steps.{plain_bit, entry}
+use Rattle.code.specs.Steps.{plain_bit}
 
 -- ---- words
 
@@ -55,10 +54,7 @@ module _ (N : ℕ) (F : ℕ → ℕ → ℕ) (w e : ℕ) (sequence table tails p
 
 -- ---- groups
 
--- what a callee left in the group's part of the capture is a part of the words laid out
+-- what was copied into the group's part of the capture is a part of the words laid out
 pub group_left : (W : ℕ → List ℕ) (g k : ℕ) (ws : List (List ℕ)) (bytes ys : List ℕ) → k ≡ group_size → ws ≡ tabulate group_words (from_index W (group_words * g))
-    → bytes ≡ laid_group ws → ys ≡ tabulate group_size (entry bytes) → ys ≡ tabulate k (from_index (byte_by the_line_order W) (group_size * g))
-group_left W g k ws bytes ys p pw pb py =
-    let e : bytes ≡ tabulate group_size (from_index (byte_by the_line_order W) (group_size * g)) = pb ∙ ap laid_group pw ∙ group_laid W g in
-    rw p (py ∙ sym (is_table 0 group_size (entry bytes) bytes (ap length e ∙ length-tabulate group_size (from_index (byte_by the_line_order W) (group_size * g)))
-    (λ j l. refl)) ∙ e)
+    → bytes ≡ laid_group ws → ys ≡ bytes → ys ≡ tabulate k (from_index (byte_by the_line_order W) (group_size * g))
+group_left W g k ws bytes ys p pw pb py = rw p (py ∙ pb ∙ ap laid_group pw ∙ group_laid W g)

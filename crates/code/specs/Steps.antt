@@ -1,9 +1,6 @@
 -- The steps on the way from an element to its word, as the code takes them. Assumes nothing: these are definitions.
 use Rattle.std.specs.Prelude.{ℕ, ◌+◌, ◌-◌, ◌*◌, ◌/◌, ◌%◌, ◌≤◌, ◌<◌, cond, ◌≡◌, List, ltb, get_or, length}
 use Rattle.bits.specs.Bits.{digit}
-use Rattle.hamming_matrix.specs.Steps.{tail_table}
-use Rattle.hamming_table.specs.Steps.{byte_table}
-use Rattle.scrambling.specs.Steps.{one_period}
 use Rattle.sizes.specs.Sizes.{crc_bits, mbas_bits, fec_blocks, element_bits, super_elements, info_length, parity_length, capture_length, most_frames}
 use Rattle.line.specs.Fec.{block_crc}
 use Rattle.line.specs.Frames.{super_of}
@@ -20,10 +17,6 @@ guard_bits = crc_bits + mbas_bits
 unfoldable pub tail_bit : ℕ → ℕ → (ℕ → ℕ) → ℕ → ℕ
 tail_bit crc mbas parity i = cond (ltb i crc_bits) (digit crc_bits crc i) (cond (ltb i guard_bits) (digit mbas_bits mbas (i - crc_bits)) (parity (i - guard_bits)))
 
--- entry k of a list of numbers
-abbrev pub entry : List ℕ → ℕ → ℕ
-entry s k = get_or s k 0
-
 -- the CRCs of the FEC blocks of N super frames
 pub record Crcs (N : ℕ) (info crcs : List ℕ) : Type 0 where
   pub is : (t : ℕ) → t < fec_blocks * N → get_or crcs t 0 ≡ block_crc info t
@@ -34,11 +27,3 @@ pub record Granted (N : ℕ) (info par cap : List ℕ) : Type 0 where
   pub information : length info ≡ info_length N
   pub parity : length par ≡ parity_length N
   pub capture : length cap ≡ capture_length N
-
--- the same, with the tables that every word needs
-pub record Ready (N : ℕ) (info par crcs sequence table tails : List ℕ) : Type 0 where
-  pub few : N ≤ most_frames
-  pub blocks : Crcs N info crcs
-  pub scrambles : sequence ≡ one_period
-  pub checks : table ≡ byte_table
-  pub closes : tails ≡ tail_table

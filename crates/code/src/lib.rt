@@ -1,7 +1,7 @@
 // Coding: information and parity in, a capture out.
 #![tactic(auto)]
 
-ghost use Rattle.std.specs.Prelude.{◌≡◌, ◌+◌, ◌*◌, ◌^◌, ◌≤◌, ◌<◌, length};
+ghost use Rattle.std.specs.Prelude.{ℕ, ◌≡◌, ◌+◌, ◌*◌, ◌^◌, ◌≤◌, ◌<◌, get_or, length};
 ghost use Rattle.prelude.specs.Lists.{tabulate, from_index};
 ghost use Rattle.bits.specs.Bits.{bit_at, byte_of, pack};
 ghost use Rattle.answer.specs.Outcomes.{Outcome};
@@ -11,9 +11,11 @@ ghost use Rattle.crc.specs.Steps.{entries};
 ghost use Rattle.sizes.specs.Sizes.{info_bytes, fec_blocks, super_elements, info_length, capture_length, words, most_frames, word_bytes};
 ghost use Rattle.line.specs.Fec.{fec_bit, block_crc};
 ghost use Rattle.line.specs.Words.{words_of};
-ghost use Rattle.scrambling.specs.Steps.{Agree};
+ghost use Rattle.hamming_matrix.specs.Steps.{tail_table};
+ghost use Rattle.hamming_table.specs.Steps.{byte_table};
+ghost use Rattle.scrambling.specs.Steps.{Agree, one_period};
 ghost use Rattle.code.specs.Code.{capture_of, code_rows, code_answer, code_leaves};
-ghost use Rattle.code.specs.Steps.{plain_bit, tail_bit, entry, Crcs, Granted, Ready};
+ghost use Rattle.code.specs.Steps.{plain_bit, tail_bit, Crcs, Granted};
 
 use answer::{Refusal, Refused};
 
@@ -68,9 +70,17 @@ fn code_all(n: usize, m0: u64, info: &[u8], parity: &[u8], capture: &mut [u8])
     scrambler::fill(&mut sequence);
     let table = hamming_table::byte_table();
     let tails = hamming_matrix::tail_table();
-    write_groups(
-        n, m0, info, parity, &crcs, &sequence, &table, &tails, capture,
-    );
+    let coder = Coder {
+        n,
+        m0,
+        info,
+        parity,
+        crcs: &crcs,
+        sequence: &sequence,
+        table: &table,
+        tails: &tails,
+    };
+    coder.write_groups(capture);
 }
 
 // The CRCs of the FEC blocks, at most forty.
@@ -80,8 +90,8 @@ fn block_crcs(n: usize, info: &[u8]) -> [u32; MOST_BLOCKS]
 {
     let table = crc::table();
     let mut crcs = [0u32; MOST_BLOCKS];
-    for t in 0..sizes::FEC_BLOCKS * n {
-        crcs[t] = block_crc(&table, info, t);
+    for (t, crc) in crcs[..sizes::FEC_BLOCKS * n].iter_mut().enumerate() {
+        *crc = block_crc(&table, info, t);
     }
     crcs
 }
@@ -95,119 +105,90 @@ fn block_crc(table: &[u32; 256], info: &[u8], t: usize) -> u32
     crc::crc(table, &info[from..from + sizes::INFO_BYTES])
 }
 
-// All words, a group of eight at a time.
-fn write_groups(
+// n super frames, whose FEC blocks count from m0 on, with what is made once and lent: the CRCs of the blocks, the scrambler's period, and
+// the tables that give a word its check bits.
+#[derive(Clone, Copy)]
+struct Coder<'a> {
     n: usize,
     m0: u64,
-    info: &[u8],
-    parity: &[u8],
-    crcs: &[u32; MOST_BLOCKS],
-    sequence: &[u8; scrambling::PERIOD_BYTES],
-    table: &[u16; 4096],
-    tails: &[u16; 512],
-    capture: &mut [u8],
-)
-    requires { Ready n info.now parity.now crcs.now sequence.now table.now tails.now × (length capture.old ≡ capture_length n) }
-    ensures { capture.new ≡ capture_of n m0 info.now parity.now }
-{
-    for g in 0..SUPER_GROUPS * n + FILLER_GROUPS {
-        let words = group(n, m0, info, parity, crcs, sequence, table, tails, g);
-        let from = sizes::GROUP_BYTES * g;
-        put_group(
-            &mut capture[from..from + sizes::GROUP_BYTES],
-            line_order::interleave(words),
-        );
-    }
+    info: &'a [u8],
+    parity: &'a [u8],
+    crcs: &'a [u32; MOST_BLOCKS],
+    sequence: &'a [u8; scrambling::PERIOD_BYTES],
+    table: &'a [u16; 4096],
+    tails: &'a [u16; 512],
+    ghost few: { n ≤ most_frames },
+    ghost blocks: { (t : ℕ) → t < fec_blocks * n → get_or crcs.now t 0 ≡ block_crc info.now t },
+    ghost scrambles: { sequence.now ≡ one_period },
+    ghost checks: { table.now ≡ byte_table },
+    ghost closes: { tails.now ≡ tail_table },
 }
 
-// Words 8 g .. 8 g + 7.
-fn group(
-    n: usize,
-    m0: u64,
-    info: &[u8],
-    parity: &[u8],
-    crcs: &[u32; MOST_BLOCKS],
-    sequence: &[u8; scrambling::PERIOD_BYTES],
-    table: &[u16; 4096],
-    tails: &[u16; 512],
-    g: usize,
-) -> [[u8; 16]; 8]
-    requires { Ready n info.now parity.now crcs.now sequence.now table.now tails.now × (8 * g + 8 ≤ words n) }
-    ensures { result ≡ tabulate 8 (from_index (words_of n (fec_bit m0 info.now parity.now)) (8 * g)) }
-{
-    let mut words = [[0u8; 16]; 8];
-    for j in 0..sizes::GROUP_WORDS {
-        words[j] = word(
-            n,
-            m0,
-            info,
-            parity,
-            crcs,
-            sequence,
-            table,
-            tails,
-            sizes::GROUP_WORDS * g + j,
-        );
+impl Coder<'_> {
+    // All words, a group of eight at a time.
+    fn write_groups(&self, capture: &mut [u8])
+        requires { length capture.old ≡ capture_length self.now.n }
+        ensures { capture.new ≡ capture_of self.now.n self.now.m0 self.now.info.now self.now.parity.now }
+    {
+        for g in 0..SUPER_GROUPS * self.n + FILLER_GROUPS {
+            let from = sizes::GROUP_BYTES * g;
+            let bytes = line_order::interleave(self.group(g));
+            capture[from..from + sizes::GROUP_BYTES].copy_from_slice(&bytes);
+        }
     }
-    words
-}
 
-// Word w: an element, scrambled and coded, or filler.
-fn word(
-    n: usize,
-    m0: u64,
-    info: &[u8],
-    parity: &[u8],
-    crcs: &[u32; MOST_BLOCKS],
-    sequence: &[u8; scrambling::PERIOD_BYTES],
-    table: &[u16; 4096],
-    tails: &[u16; 512],
-    w: usize,
-) -> [u8; 16]
-    requires { Ready n info.now parity.now crcs.now sequence.now table.now tails.now × (w < words n) }
-    ensures { result ≡ words_of n (fec_bit m0 info.now parity.now) w }
-{
-    if !line::holds_element(n, w) {
-        return [0u8; 16];
+    // Words 8 g .. 8 g + 7.
+    fn group(&self, g: usize) -> [[u8; 16]; 8]
+        requires { 8 * g + 8 ≤ words self.now.n }
+        ensures { result ≡ tabulate 8 (from_index (words_of self.now.n (fec_bit self.now.m0 self.now.info.now self.now.parity.now)) (8 * g)) }
+    {
+        let mut words = [[0u8; 16]; 8];
+        for (j, word) in words.iter_mut().enumerate() {
+            *word = self.word(sizes::GROUP_WORDS * g + j);
+        }
+        words
     }
-    let e = line::element_in(w);
-    let plain = plain_element(n, m0, info, parity, crcs, e);
-    hamming_table::encode_by(table, tails, scrambling::element(sequence, e, plain))
-}
 
-// Element e before it is scrambled. Only its 119 bits count: those behind them are of whatever follows.
-fn plain_element(
-    n: usize,
-    m0: u64,
-    info: &[u8],
-    parity: &[u8],
-    crcs: &[u32; MOST_BLOCKS],
-    e: usize,
-) -> [u8; 16]
-    requires { (n ≤ most_frames) × Crcs n info.now crcs.now × (e < super_elements * n) }
-    ensures { Agree (bit_at result) (plain_bit (fec_bit m0 info.now parity.now) e) }
-{
-    let l = e % sizes::SUPER_ELEMENTS;
-    if sizes::PAD_ELEMENT <= l {
-        return [0u8; 16];
+    // Word w: an element, scrambled and coded, or filler.
+    fn word(&self, w: usize) -> [u8; 16]
+        requires { w < words self.now.n }
+        ensures { result ≡ words_of self.now.n (fec_bit self.now.m0 self.now.info.now self.now.parity.now) w }
+    {
+        if !line::holds_element(self.n, w) {
+            return [0u8; 16];
+        }
+        let e = line::element_in(w);
+        let plain = self.plain_element(e);
+        hamming_table::encode_by(
+            self.table,
+            self.tails,
+            scrambling::element(self.sequence, e, plain),
+        )
     }
-    let t = sizes::FEC_BLOCKS * (e / sizes::SUPER_ELEMENTS) + l / sizes::FEC_ELEMENTS;
-    let m = l % sizes::FEC_ELEMENTS;
-    if m < sizes::INFO_ELEMENTS {
-        return bits_copy::word_from(info, sizes::INFO_BITS * t + sizes::ELEMENT_BITS * m);
+
+    // Element e before it is scrambled. Only its 119 bits count: those behind them are of whatever follows.
+    fn plain_element(&self, e: usize) -> [u8; 16]
+        requires { e < super_elements * self.now.n }
+        ensures { Agree (bit_at result) (plain_bit (fec_bit self.now.m0 self.now.info.now self.now.parity.now) e) }
+    {
+        let l = e % sizes::SUPER_ELEMENTS;
+        if sizes::PAD_ELEMENT <= l {
+            return [0u8; 16];
+        }
+        let t = sizes::FEC_BLOCKS * (e / sizes::SUPER_ELEMENTS) + l / sizes::FEC_ELEMENTS;
+        let m = l % sizes::FEC_ELEMENTS;
+        if m < sizes::INFO_ELEMENTS {
+            return bits_copy::word_from(self.info, sizes::INFO_BITS * t + sizes::ELEMENT_BITS * m);
+        }
+        let at = sizes::PARITY_BITS * t;
+        if m == sizes::INFO_ELEMENTS {
+            return tail_element(self.crcs[t], line::mbas(self.m0, t as u64), self.parity, at);
+        }
+        bits_copy::word_from(
+            self.parity,
+            at + (sizes::ELEMENT_BITS * (m - sizes::INFO_ELEMENTS) - GUARD_BITS),
+        )
     }
-    if m == sizes::INFO_ELEMENTS {
-        return tail_element(
-            crcs[t],
-            line::mbas(m0, t as u64),
-            parity,
-            sizes::PARITY_BITS * t,
-        );
-    }
-    bits_copy::word_from(
-        parity,
-        sizes::PARITY_BITS * t + (sizes::ELEMENT_BITS * (m - sizes::INFO_ELEMENTS) - GUARD_BITS),
-    )
 }
 
 // The element of a block's CRC and MBAS, with the parity from bit `at` on behind them.
@@ -216,8 +197,8 @@ fn tail_element(crc: u32, mbas: u8, parity: &[u8], at: usize) -> [u8; 16]
     ensures { result ≡ pack word_bytes (tail_bit crc mbas (from_index (bit_at parity.now) at)) }
 {
     let mut r = [0u8; 16];
-    for k in 0..sizes::WORD_BYTES {
-        r[k] = tail_byte(crc, mbas, parity, at, k);
+    for (k, byte) in r.iter_mut().enumerate() {
+        *byte = tail_byte(crc, mbas, parity, at, k);
     }
     r
 }
@@ -234,14 +215,4 @@ fn tail_byte(crc: u32, mbas: u8, parity: &[u8], at: usize, k: usize) -> u8
         return mbas * 4 + bits::byte_from(parity, at) / 64;
     }
     bits::byte_from(parity, at + (8 * k - GUARD_BITS))
-}
-
-// Stores the 128 bytes of a group.
-fn put_group(out: &mut [u8], group: [u8; 128])
-    requires { length out.old ≡ 128 }
-    ensures { out.new ≡ tabulate 128 (entry group) }
-{
-    for k in 0..sizes::GROUP_BYTES {
-        out[k] = group[k];
-    }
 }

@@ -6,4 +6,4 @@ use Rattle.code.specs.Steps.{tail_bit}
 use Rattle.code.proofs.tail_element.Given as goal
 
 abbrev pub invariant-loop-k : goal.invariant-loop-k
-invariant-loop-k l = Filled l.k (byte_of (tail_bit l.crc l.mbas (from_index (bit_at l.parity) l.at))) l.initial.r l.r
+invariant-loop-k l = Filled l.k (byte_of (tail_bit l.crc l.mbas (from_index (bit_at l.parity) l.at))) l.initial.byte-items l.byte-items

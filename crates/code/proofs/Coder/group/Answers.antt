@@ -1,11 +1,8 @@
--- `code::group` meets its contract. Assumes nothing.
+-- `code::Coder::group` meets its contract. Assumes nothing.
 use native.Mathlib.Omega.{arith}
 use Rattle.prelude.proofs.Lists.{filled_more, filled_all}
 use Rattle.prelude.proofs.LoopLaws.{loops}
-use Rattle.code.proofs.group.Goals as goal
-
-pub word-requires : goal.word-requires
-word-requires c = (c.requires.0, omega arith)
+use Rattle.code.proofs.Coder.group.Goals as goal
 
 pub loop-j-preserved : goal.loop-j-preserved
 loop-j-preserved c = filled_more c.loop-j.invariant c.loop-j-test.true c.word.ensures
