@@ -1,11 +1,13 @@
 -- What the public functions answer, for any input: document 01, "GMP places" and "Numbers handed back". Assumes nothing: these are definitions.
-use Rattle.std.specs.Prelude.{ℕ, Bool, cond, ◌||◌, List, [], ◌∷◌, ltb}
+use Rattle.std.specs.Prelude.{ℕ, Bool, cond, ◌||◌, List, [], ◌∷◌, Result, Ok, Err, ltb}
 use Rattle.answer.specs.Numbers.{all_done, outside_set}
 use Rattle.answer.specs.Rows.{Row, answer_of, whole}
+use Rattle.answer.specs.Refusals.{number_of}
 use Rattle.answer.specs.declared.Answer.{Answer}
-use Rattle.gmp.specs.Places.{kind_number, kind_at}
+use Rattle.answer.specs.declared.refusal.Refused.{Refused}
+use Rattle.gmp.specs.Places.{is_data, kind_number, kind_at}
 use Rattle.gmp.specs.Runs.{last_of_run, runs_from}
-use Rattle.gmp.specs.declared.told.Kind.TheVariants.{Stuff}
+use Rattle.gmp.specs.declared.told.Kind.TheVariants.{Stuff, Data}
 use Rattle.sizes.specs.Sizes.{places}
 use Rattle.gmp.specs.declared.told.Run.{Run}
 
@@ -19,8 +21,9 @@ pub record Told : Type 0 where
   pub kind : ℕ
   pub last : ℕ
 
-abbrev pub told : Run → Told
-told r = record { number = r.number; kind = kind_number r.kind; last = r.last }
+abbrev pub told : Result Run Refused → Told
+told (Ok r) = record { number = all_done; kind = kind_number r.kind; last = r.last }
+told (Err r) = record { number = number_of r.refusal; kind = kind_number Stuff; last = 0 }
 
 -- "A refused run request also gives kind stuff and last place 0."
 unfoldable pub run_of : ℕ → ℕ → Told
@@ -34,3 +37,7 @@ runs_rows c j = whole outside_set (outside_place c j) ∷ []
 
 unfoldable pub runs_of : ℕ → ℕ → Answer
 runs_of c j = answer_of (runs_rows c j) (runs_from c j)
+
+-- the run of a place, as the code hands it on
+unfoldable pub run_at : ℕ → ℕ → Run
+run_at c j = record { kind = cond (is_data c j) Data Stuff; last = last_of_run c j }

@@ -1,54 +1,42 @@
 // GMP places and their runs: document 01, "GMP places".
 #![tactic(auto)]
 
-ghost use Rattle.std.specs.Prelude.{◌≡◌, true, false};
+ghost use Rattle.std.specs.Prelude.{◌≡◌, true, false, IfErr};
+ghost use Rattle.answer.specs.Refusals.{answered};
 ghost use Rattle.gmp.specs.Places.{is_data, outside_stretch};
-ghost use Rattle.gmp.specs.Runs.{last_of_run, runs_from};
-ghost use Rattle.gmp.specs.Answers.{outside_place, told, run_of, runs_of};
+ghost use Rattle.gmp.specs.Runs.{last_of_run};
+ghost use Rattle.gmp.specs.Answers.{outside_place, told, run_of, run_at, runs_of};
 ghost use Rattle.gmp.specs.Steps.{Place, DataIn};
 
 mod told;
 
-use answer::Answer;
+use answer::{Refusal, Refused};
 use sizes::PLACES;
 pub use told::{Kind, Run};
 
 // The kind of place j and the last place of its run.
-pub fn run(c: u64, j: u64) -> Run
-    ensures { told result ≡ run_of c j }
+pub fn run(c: u64, j: u64) -> Result<Run, Refused>
+    ensures told { told result ≡ run_of c j }
+    ensures place { IfErr result (λ r. r.place ≡ 0) }
 {
     if outside_place(c, j) {
-        return Run {
-            number: answer::OUTSIDE_SET,
-            kind: Kind::Stuff,
-            last: 0,
-        };
+        return Err(Refusal::OutsideSet.at(0));
     }
-    if is_data(c, j) {
-        return Run {
-            number: 0,
-            kind: Kind::Data,
-            last: data_last(c, j),
-        };
-    }
-    Run {
-        number: 0,
-        kind: Kind::Stuff,
-        last: stuff_last(c, j),
-    }
+    Ok(run_at(c, j))
 }
 
 // How many runs there are from place j on, what is left of j's own counting as one.
-pub fn runs(c: u64, j: u64) -> Answer
-    ensures { result ≡ runs_of c j }
+pub fn runs(c: u64, j: u64) -> Result<u64, Refused>
+    ensures { answered result ≡ runs_of c j }
 {
-    if outside_place(c, j) {
-        return answer::refuse(answer::OUTSIDE_SET, 0);
+    let first = run(c, j)?;
+    let mut last = first.last;
+    let mut runs = 1;
+    while last < PLACES {
+        last = run_at(c, last + 1).last;
+        runs += 1;
     }
-    if is_data(c, j) {
-        return answer::granted(data_runs(c, j));
-    }
-    answer::granted(stuff_runs(c, j))
+    Ok(runs)
 }
 
 // How many of the n places from f on are data. Where c is no count, or they are not all places, it is 0.
@@ -65,30 +53,15 @@ pub fn data_in(c: u64, f: u64, n: u64) -> u64
 pub fn outside_stretch(c: u64, f: u64, n: u64) -> bool
     ensures { result ≡ outside_stretch c f n }
 {
-    if PLACES < c {
-        return true;
-    }
-    if f < 1 {
-        return true;
-    }
     // f + n could wrap, so n is taken to the other side.
-    if PLACES < n {
-        return true;
-    }
-    PLACES - n + 1 < f
+    PLACES < c || f < 1 || PLACES < n || PLACES - n + 1 < f
 }
 
 // Whether c is no count or j no place.
 fn outside_place(c: u64, j: u64) -> bool
     ensures { result ≡ outside_place c j }
 {
-    if PLACES < c {
-        return true;
-    }
-    if j < 1 {
-        return true;
-    }
-    PLACES < j
+    PLACES < c || j < 1 || PLACES < j
 }
 
 // Whether place j is data.
@@ -97,6 +70,24 @@ fn is_data(c: u64, j: u64) -> bool
     ensures { result ≡ is_data c j }
 {
     j * c % PLACES < c
+}
+
+// The run of place j.
+fn run_at(c: u64, j: u64) -> Run
+    requires { Place c j }
+    ensures { result ≡ run_at c j }
+{
+    if is_data(c, j) {
+        Run {
+            kind: Kind::Data,
+            last: data_last(c, j),
+        }
+    } else {
+        Run {
+            kind: Kind::Stuff,
+            last: stuff_last(c, j),
+        }
+    }
 }
 
 // The last place of the run of a data place: its residue falls by PLACES - c at each place.
@@ -119,30 +110,4 @@ fn stuff_last(c: u64, j: u64) -> u64
         return PLACES;
     }
     j + (PLACES - 1 - j * c % PLACES) / c
-}
-
-// The runs from data place j on: its own, and those of the stuff place behind it.
-#[cycle(data_runs_stuff_runs)]
-fn data_runs(c: u64, j: u64) -> u64
-    requires { Place c j × (is_data c j ≡ true) }
-    ensures { result ≡ runs_from c j }
-{
-    let last = data_last(c, j);
-    if last == PLACES {
-        return 1;
-    }
-    1 + stuff_runs(c, last + 1)
-}
-
-// The runs from stuff place j on: its own, and those of the data place behind it.
-#[cycle(data_runs_stuff_runs)]
-fn stuff_runs(c: u64, j: u64) -> u64
-    requires { Place c j × (is_data c j ≡ false) }
-    ensures { result ≡ runs_from c j }
-{
-    let last = stuff_last(c, j);
-    if last == PLACES {
-        return 1;
-    }
-    1 + data_runs(c, last + 1)
 }

@@ -1,14 +1,25 @@
 // What a run request hands back.
+use std::fmt;
 
-#[derive(Clone, Copy)]
+#[derive(Clone, Copy, Debug, PartialEq, Eq)]
 pub enum Kind {
     Stuff,
     Data,
 }
 
-#[derive(Clone, Copy)]
+// The letter in a list of runs.
+impl fmt::Display for Kind {
+    fn fmt<W: fmt::Write>(&self, f: &mut fmt::Formatter<W>) -> fmt::Result {
+        f.write_str(match self {
+            Kind::Stuff => "S",
+            Kind::Data => "D",
+        })
+    }
+}
+
+// The kind of a place, and the last place of its run.
+#[derive(Clone, Copy, Debug, PartialEq, Eq)]
 pub struct Run {
-    pub number: u64,
     pub kind: Kind,
     pub last: u64,
 }
