@@ -1,7 +1,7 @@
 // The lengths of the buffers of a call, for any numbers at all, and spaces that have room for them.
 #![tactic(auto)]
 
-ghost use Rattle.std.specs.Prelude.{◌≡◌, length, replicate};
+ghost use Rattle.std.specs.Prelude.{◌≡◌, ◌≤◌, ◌+◌, ◌*◌, ◌^◌, length, replicate};
 ghost use Rattle.sizes.specs.Sizes.{places, most_frames, info_length, parity_length, capture_length, group_bytes, window_bytes};
 ghost use Rattle.gmp.specs.Steps.{data_in};
 ghost use Rattle.buffer_sizes.specs.Lengths.{large_bytes, small_bytes, Stated, up_to};
@@ -38,30 +38,32 @@ pub fn small_space() -> Small
 pub fn information(n: u64) -> usize
     ensures { Stated (info_length most_frames) (up_to most_frames info_length n) result }
 {
-    if MOST < n {
-        return 0;
-    }
-    sizes::SUPER_INFO_BYTES * (n as usize)
+    frames(n, sizes::SUPER_INFO_BYTES, 0)
 }
 
 // The bytes of parity of n super frames.
 pub fn parity(n: u64) -> usize
     ensures { Stated (parity_length most_frames) (up_to most_frames parity_length n) result }
 {
-    if MOST < n {
-        return 0;
-    }
-    sizes::SUPER_PARITY_BYTES * (n as usize)
+    frames(n, sizes::SUPER_PARITY_BYTES, 0)
 }
 
 // The bytes of a capture of n super frames.
 pub fn capture(n: u64) -> usize
     ensures { Stated (capture_length most_frames) (up_to most_frames capture_length n) result }
 {
+    frames(n, sizes::SUPER_CAPTURE_BYTES, sizes::FILLER_BYTES)
+}
+
+// The bytes of n super frames, with `behind` more behind the last; 0 where no capture has so many.
+fn frames(n: u64, each: usize, behind: usize) -> usize
+    requires { (each ≤ 2 ^ 32) × (behind ≤ 2 ^ 32) }
+    ensures { Stated (each * most_frames + behind) (up_to most_frames (λ m. each * m + behind) n) result }
+{
     if MOST < n {
         return 0;
     }
-    sizes::SUPER_CAPTURE_BYTES * (n as usize) + sizes::FILLER_BYTES
+    each * (n as usize) + behind
 }
 
 // The bytes of a window of n places.

@@ -1,10 +1,6 @@
 // Writes the runs of a count, in the lines of document 01, "GMP places".
 #![tactic(auto)]
 
-ghost use Rattle.std.specs.Prelude.{◌≤◌};
-ghost use Rattle.sizes.specs.Sizes.{places};
-
-use gmp::{Kind, Run};
 use std::io;
 use std::io::Write;
 
@@ -23,24 +19,14 @@ pub fn print_named<W: Write>(out: &mut W, name: &[u8], number: u64) -> io::Resul
     writeln!(out, "{number}")
 }
 
-fn print_runs<W: Write>(out: &mut W, c: u64) -> io::Result<()>
-    requires { c ≤ places }
-{
-    let mut j = 1;
-    while j <= sizes::PLACES {
-        let run = gmp::run(c, j);
-        print_run(out, j, run)?;
-        j = run.last + 1;
+// A run is asked for at the place behind the one before, until that is no place.
+fn print_runs<W: Write>(out: &mut W, c: u64) -> io::Result<()> {
+    let mut from = 1;
+    while let Ok(run) = gmp::run(c, from) {
+        let kind = run.kind;
+        let last = run.last;
+        writeln!(out, "{kind} {from}-{last}")?;
+        from = last + 1;
     }
     Ok(())
-}
-
-fn print_run<W: Write>(out: &mut W, from: u64, run: Run) -> io::Result<()> {
-    let kind = run.kind;
-    match kind {
-        Kind::Stuff => out.write_all(b"S ")?,
-        Kind::Data => out.write_all(b"D ")?,
-    }
-    let last = run.last;
-    writeln!(out, "{from}-{last}")
 }

@@ -3,8 +3,8 @@ use Rattle.std.proofs.Common.{◌-◌, ◌≤◌}
 use Rattle.gmp_print.proofs.print_runs.Given as goal
 
 -- a run ends at or behind the place asked for, and the measure is the number of places that are left
-abbrev pub invariant-loop-j : goal.invariant-loop-j
-invariant-loop-j g l = (1 ≤ l.j) × (l.j ≤ 10221)
+abbrev pub invariant-loop-run : goal.invariant-loop-run
+invariant-loop-run g l = (1 ≤ l.from) × (l.from ≤ 10221)
 
-abbrev pub decreases-loop-j : goal.decreases-loop-j
-decreases-loop-j g l = 10221 - l.j
+abbrev pub decreases-loop-run : goal.decreases-loop-run
+decreases-loop-run g l = 10221 - l.from

@@ -1,5 +1,5 @@
 -- `gmp_window::unmap_answer` meets its contract: its tests in turn are the table. Assumes nothing.
-use mathlib.Core.Path.{◌≡◌, refl}
+use mathlib.Core.Path.{refl}
 use Rattle.std.proofs.lemmas.Result.{err_from_is_err_and}
 use Rattle.answer.specs.Steps.{in_turn, row_then, faults_then}
 use Rattle.answer.proofs.Results.{test_held, test_gone}
