@@ -1,38 +1,26 @@
 // Numbers in bytes, high byte first, and the fields of entries.
 ghost use Rattle.std.specs.Prelude.{◌≡◌, ◌+◌, ◌*◌, ◌^◌, ◌≤◌, ◌<◌, length, get_or};
-ghost use Rattle.archive_spec.specs.File.{most_entries, head_bytes, fixed_bytes, fixed, bytes_of, number_at, count_outside, kind_outside};
+ghost use Rattle.archive_spec.specs.File.{most_entries, head_bytes, bytes_of, number_at, count_outside, kind_outside};
 ghost use Rattle.archive_spec.specs.Read.{overwritten};
 ghost use Rattle.archive_spec.specs.Steps.{field_in, Number, placed, Room, Listed};
 
-use crate::{BEFORE_ENTRIES, ENTRY_BYTES, MOST_ENTRIES};
+use crate::{BEFORE_ENTRIES, ENTRY_BYTES, Kind, MOST_ENTRIES};
 
-// Byte k of those with which every capture file begins.
-pub(crate) fn fixed_byte(k: usize) -> u8
-    requires { k < fixed_bytes }
-    ensures { result ≡ get_or fixed k 0 }
-{
-    let text = b"400ZR CAPTURE 1\n";
-    text[k]
-}
+// The bytes with which every capture file begins.
+pub(crate) const FIXED: [u8; 16] = *b"400ZR CAPTURE 1\n";
 
 // Whether it is no count of entries.
 pub(crate) fn count_outside(n: u64) -> bool
     ensures { result ≡ count_outside n }
 {
-    if n < 1 {
-        return true;
-    }
-    (MOST_ENTRIES as u64) < n
+    !(1..=MOST_ENTRIES as u64).contains(&n)
 }
 
 // Whether it is no kind of body.
 pub(crate) fn kind_outside(kind: u64) -> bool
     ensures { result ≡ kind_outside kind }
 {
-    if kind < 1 {
-        return true;
-    }
-    3 < kind
+    Kind::try_from(kind).is_err()
 }
 
 // Where entry e begins, which is how long a head of e entries is.
@@ -49,10 +37,8 @@ pub(crate) fn number_at(k: usize, s: &[u8], a: usize) -> u64
     ensures { Number k s.now a result }
 {
     let mut x: u64 = 0;
-    let mut j = 0;
-    while j < k {
+    for j in 0..k {
         x = x * 256 + bits::wide(bits::byte_at(s, a + j)) as u64;
-        j += 1;
     }
     x
 }

@@ -8,10 +8,12 @@ ghost use Rattle.archive_spec.specs.Write.{write_answer, write_leaves};
 ghost use Rattle.archive_spec.specs.Read.{open_answer, open_leaves};
 
 mod field;
+mod kind;
 mod opening;
 mod writing;
 
 use answer::Refused;
+pub use kind::{Kind, UnknownKind};
 
 pub const ENTRY_BYTES: usize = 9;
 

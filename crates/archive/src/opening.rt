@@ -1,11 +1,10 @@
 // What reading answers.
-ghost use Rattle.std.specs.Prelude.{◌≡◌, ◌≤◌, ◌<◌, min};
-ghost use Rattle.prelude.specs.Loops.{first};
+ghost use Rattle.std.specs.Prelude.{◌≡◌, ◌≤◌, ◌<◌};
 ghost use Rattle.answer.specs.Rows.{answer_of};
 ghost use Rattle.answer.specs.Refusals.{answered};
-ghost use Rattle.archive_spec.specs.File.{most_entries, most_head_bytes, field_most, count_in};
+ghost use Rattle.archive_spec.specs.File.{most_entries, field_most, count_in};
 ghost use Rattle.archive_spec.specs.Read.{is_no_archive, bad_kind, off_rule, open_early_rows, open_late_rows, open_answer};
-ghost use Rattle.archive_spec.specs.Steps.{bad_count_of, off_rule_at, entries_answer};
+ghost use Rattle.archive_spec.specs.Steps.{bad_count_of, off_rule_at, place_found, entries_answer};
 
 use crate::{BEFORE_ENTRIES, MOST_ENTRIES, MOST_HEAD_BYTES, field};
 use answer::{Refusal, Refused};
@@ -21,22 +20,12 @@ pub(crate) fn judge(
     ensures { answered result ≡ open_answer size first.now kinds offsets lengths }
 {
     let most = MOST_ENTRIES as u64;
-    answer::refuse_length(1, first.len() as u64, wanted(size))?;
+    let wanted = size.min(MOST_HEAD_BYTES as u64);
+    answer::refuse_length(1, first.len() as u64, wanted)?;
     answer::refuse_length(2, kinds, most)?;
     answer::refuse_length(3, offsets, most)?;
     answer::refuse_length(4, lengths, most)?;
     judge_file(size, first)
-}
-
-// So many first bytes are looked at.
-fn wanted(size: u64) -> u64
-    ensures { result ≡ min size most_head_bytes }
-{
-    if size < MOST_HEAD_BYTES as u64 {
-        size
-    } else {
-        MOST_HEAD_BYTES as u64
-    }
 }
 
 // Numbers 10 to 12.
@@ -49,84 +38,65 @@ fn judge_file(size: u64, first: &[u8]) -> Result<u64, Refused>
     judge_entries(size, first, n as usize)
 }
 
-// 11 and 12 of the n entries, whose places count from 1.
+// 11 and 12 of the n entries.
 fn judge_entries(size: u64, first: &[u8], n: usize) -> Result<u64, Refused>
     requires { n ≤ most_entries }
     ensures { answered result ≡ entries_answer size first.now n }
 {
     let bad = first_bad_kind(size, first, n);
     let off = first_off_rule(size, first, n);
-    answer::refuse_if(bad < n, Refusal::BadEntry, bad as u64 + 1)?;
-    answer::refuse_if(off < n, Refusal::Misplaced, off as u64 + 1)?;
+    answer::refuse_at(Refusal::BadEntry, bad)?;
+    answer::refuse_at(Refusal::Misplaced, off)?;
     Ok(n as u64)
 }
 
 fn is_no_archive(size: u64, first: &[u8]) -> bool
     ensures { result ≡ is_no_archive size first.now }
 {
-    if size < 16 {
-        return true;
-    }
-    let mut k = 0;
-    while k < 16 {
-        if bits::byte_at(first, k) != field::fixed_byte(k) {
-            return true;
-        }
-        k += 1;
-    }
-    false
+    size < 16 || !first.starts_with(&field::FIXED)
 }
 
 fn is_bad_count(size: u64, n: u64) -> bool
     ensures { result ≡ bad_count_of size n }
 {
-    if size < BEFORE_ENTRIES as u64 {
-        return true;
-    }
-    field::count_outside(n)
+    size < BEFORE_ENTRIES as u64 || field::count_outside(n)
 }
 
-// The first whole entry whose kind is none, or n.
-fn first_bad_kind(size: u64, s: &[u8], n: usize) -> usize
+// The place, counted from 1, of the first whole entry whose kind is none.
+fn first_bad_kind(size: u64, s: &[u8], n: usize) -> Option<u64>
     requires { n ≤ most_entries }
-    ensures { result ≡ first (bad_kind size s.now) n }
+    ensures { result ≡ place_found (bad_kind size s.now) n }
 {
-    let mut e = 0;
-    while e < n {
+    for e in 0..n {
         if is_bad_kind(size, s, e) {
-            return e;
+            return Some(e as u64 + 1);
         }
-        e += 1;
     }
-    e
+    None
 }
 
 fn is_bad_kind(size: u64, s: &[u8], e: usize) -> bool
     requires { e < most_entries }
     ensures { result ≡ bad_kind size s.now e }
 {
-    if size < field::entry_from(e + 1) as u64 {
-        return false;
-    }
-    field::kind_outside(field::number_at(1, s, field::entry_from(e)))
+    let whole = field::entry_from(e + 1) as u64 <= size;
+    whole && field::kind_outside(field::number_at(1, s, field::entry_from(e)))
 }
 
-// The first entry that is cut off or not where the rule puts it, or n.
-fn first_off_rule(size: u64, s: &[u8], n: usize) -> usize
+// The place of the first entry that is cut off or not where the rule puts it.
+fn first_off_rule(size: u64, s: &[u8], n: usize) -> Option<u64>
     requires { n ≤ most_entries }
-    ensures { result ≡ first (off_rule size s.now n) n }
+    ensures { result ≡ place_found (off_rule size s.now n) n }
 {
     let mut from = field::entry_from(n) as u64;
-    let mut e = 0;
-    while e < n {
+    for e in 0..n {
         let long = field::number_at(4, s, field::entry_from(e) + 5);
         if is_off_rule(size, s, n, e, from, long) {
-            return e;
+            return Some(e as u64 + 1);
         }
         from += long;
-        e += 1;
     }
-    e
+    None
 }
 
 // The same of entry e, whose body the rule puts at `from`.

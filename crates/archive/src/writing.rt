@@ -1,16 +1,15 @@
 // What writing answers, and the head that it makes.
-ghost use Rattle.std.specs.Prelude.{◌≡◌, ◌+◌, ◌≤◌, min, length};
-ghost use Rattle.prelude.specs.Loops.{first};
+ghost use Rattle.std.specs.Prelude.{◌≡◌, ◌+◌, ◌≤◌, length};
 ghost use Rattle.answer.specs.Refusals.{answered};
 ghost use Rattle.archive_spec.specs.File.{most_entries, entry_bytes, head_bytes, fixed_bytes, fixed, table_entry, head_of};
-ghost use Rattle.archive_spec.specs.Write.{nth, entry_outside, write_outside, write_answer};
+ghost use Rattle.archive_spec.specs.Write.{nth, any_below, entry_outside, handed_in, write_outside, write_answer};
 ghost use Rattle.archive_spec.specs.Steps.{Head, HeadUpTo, Inside, outside_at, placed};
 
-use crate::field;
+use crate::{BEFORE_ENTRIES, ENTRY_BYTES, field};
 use answer::{Refusal, Refused};
 
 // The most that a field of four bytes holds.
-const FIELD_MOST: u64 = 4294967295;
+const FIELD_MOST: u64 = u32::MAX as u64;
 
 // The table of writing, its tests in turn.
 pub(crate) fn judge(count: u64, kinds: &[u64], lengths: &[u64], head: u64) -> Result<u64, Refused>
@@ -28,35 +27,22 @@ pub(crate) fn judge(count: u64, kinds: &[u64], lengths: &[u64], head: u64) -> Re
 fn outside(count: u64, kinds: &[u64], lengths: &[u64]) -> bool
     ensures { result ≡ write_outside count kinds.now lengths.now }
 {
-    if field::count_outside(count) {
-        return true;
-    }
-    let n = count as usize;
-    let m = least(n, least(kinds.len(), lengths.len()));
-    first_outside(n, m, kinds, lengths) < m
+    field::count_outside(count) || any_outside(count as usize, kinds, lengths)
 }
 
-fn least(a: usize, b: usize) -> usize
-    ensures { result ≡ min a b }
+fn any_outside(n: usize, kinds: &[u64], lengths: &[u64]) -> bool
+    requires { n ≤ most_entries }
+    ensures { result ≡ any_below (entry_outside n (nth kinds.now) (nth lengths.now)) (handed_in n kinds.now lengths.now) }
 {
-    if a < b { a } else { b }
-}
-
-// The first of m entries that is outside its fields, or m.
-fn first_outside(n: usize, m: usize, kinds: &[u64], lengths: &[u64]) -> usize
-    requires { (n ≤ most_entries) × (m ≤ length kinds.now) × (m ≤ length lengths.now) }
-    ensures { result ≡ first (entry_outside n (nth kinds.now) (nth lengths.now)) m }
-{
+    let m = n.min(kinds.len().min(lengths.len()));
     let mut from = field::entry_from(n) as u64;
-    let mut e = 0;
-    while e < m {
-        if is_outside(kinds[e], from, lengths[e]) {
-            return e;
+    for (&kind, &long) in kinds[..m].iter().zip(&lengths[..m]) {
+        if is_outside(kind, from, long) {
+            return true;
         }
-        from += lengths[e];
-        e += 1;
+        from += long;
     }
-    e
+    false
 }
 
 // The same of one entry, whose body begins at `from`.
@@ -86,10 +72,12 @@ fn put_entries(n: usize, kinds: &[u64], lengths: &[u64], head: &mut [u8])
     requires { Head n kinds.now lengths.now head.old × HeadUpTo n kinds.now lengths.now 0 head.old (head_bytes n) }
     ensures { head.new ≡ head_of n (nth kinds.now) (nth lengths.now) }
 {
+    let mut at = BEFORE_ENTRIES;
     let mut from = field::entry_from(n) as u64;
-    for e in 0..n {
-        put_entry(kinds[e], from, lengths[e], field::entry_from(e), head);
-        from += lengths[e];
+    for (&kind, &long) in kinds.iter().zip(lengths) {
+        put_entry(kind, from, long, at, head);
+        at += ENTRY_BYTES;
+        from += long;
     }
 }
 
@@ -97,9 +85,7 @@ fn put_fixed(head: &mut [u8])
     requires { fixed_bytes ≤ length head.old }
     ensures { head.new ≡ placed head.old 0 fixed }
 {
-    for k in 0..16 {
-        head[k] = field::fixed_byte(k);
-    }
+    head[..16].copy_from_slice(&field::FIXED);
 }
 
 fn put_entry(kind: u64, from: u64, long: u64, at: usize, head: &mut [u8])

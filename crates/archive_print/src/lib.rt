@@ -1,6 +1,7 @@
 // Writes the table of a capture file, one line an entry, and the line of a refused file: document 02, M-100.
 #![tactic(auto)]
 
+use archive::Kind;
 use std::io;
 use std::io::Write;
 
@@ -15,7 +16,8 @@ pub fn print<W: Write>(
     let bodies = offsets.iter().zip(lengths);
     let entries = kinds.iter().zip(bodies).take(count as usize);
     for (e, (kind, (offset, length))) in entries.enumerate() {
-        let kind = name(*kind);
+        // Reading refuses a table with a number that is no kind's.
+        let kind = Kind::try_from(*kind).unwrap_or(Kind::Capture);
         writeln!(out, "{} {kind} {offset} {length}", e + 1)?;
     }
     Ok(())
@@ -24,12 +26,4 @@ pub fn print<W: Write>(
 // The number alone: a place is no part of the line.
 pub fn print_refused<W: Write>(out: &mut W, number: u64) -> io::Result<()> {
     writeln!(out, "refused {number}")
-}
-
-fn name(kind: u64) -> &'static str {
-    match kind {
-        1 => "information",
-        2 => "parity",
-        _ => "capture",
-    }
 }

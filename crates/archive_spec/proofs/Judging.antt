@@ -16,6 +16,10 @@ use Rattle.prelude.proofs.Lists.{tabulate_ext}
 use Rattle.prelude.proofs.LoopLaws.{PassedOver, first_here, first_end, first_holds}
 use Rattle.answer.specs.Numbers.{all_done, outside_set, wrong_length, not_archive, bad_entry, misplaced}
 use Rattle.answer.specs.Rows.{Row, each, done, refused, wrong, buffer_place, FirstFault, row_number, places_of, holds_at, first_of, answer_of, rising}
+use Rattle.std.specs.Prelude.{Option, Some, None, Result}
+use Rattle.answer.specs.Refusals.{refused_at, tested, found_at}
+use Rattle.answer.specs.declared.refusal.Refusal.{Refusal}
+use Rattle.answer.specs.declared.refusal.Refused.{Refused}
 use Rattle.answer.specs.Demand1.{Exactly, Demand1}
 use Rattle.answer.specs.Outcomes.{Outcome}
 use Rattle.answer.specs.Steps.{in_turn, row_then, faults_then, NoFault, RowPassed, Passed}
@@ -28,7 +32,7 @@ use Rattle.archive_spec.specs.File.{fixed_bytes, fixed, head_bytes, most_entries
 use Rattle.archive_spec.specs.Write.{nth, any_below, entry_outside, handed_in, write_outside, write_rows, write_answer, write_leaves}
 use Rattle.archive_spec.specs.Read.{fixed_differs, is_no_archive, at_place, bad_count, bad_kind, off_rule, open_early_rows, open_late_rows, open_rows, open_answer, table_in}
 use Rattle.archive_spec.specs.Read.{open_leaves}
-use Rattle.archive_spec.specs.Steps.{field_in, bad_count_of, entries_answer, Head, Room, Listed}
+use Rattle.archive_spec.specs.Steps.{field_in, bad_count_of, place_found, entries_answer, Head, Room, Listed}
 
 -- ---- DEMAND 1 of both
 
@@ -88,6 +92,25 @@ count_known size n p q = counted n (or_right (ltb size (head_bytes 0)) (count_ou
 -- what was found stands no further than the end
 pub few_found : (p : ℕ → Bool) (n : ℕ) {x : ℕ} → x ≡ first p n → x ≤ n
 few_found p n e = rw e (first_holds p n).within
+
+-- a search for a place: where it ends, and what it refuses
+module _ (p : ℕ → Bool) (n : ℕ) where
+  pub place_here : {e : ℕ} → e ≡ first p n → e < n → Some (e + 1) ≡ place_found p n
+  unfolding place_found
+  place_here {e} h l = rw (← h, lt-ltb e n l)
+
+  pub place_none : {e : ℕ} → e ≡ first p n → n ≤ e → None ≡ place_found p n
+  unfolding place_found
+  place_none {e} h l = rw (← h, le-ltb e n l)
+
+  pub place_refused : (r : Refusal) {o : Option ℕ} {x : Result (Unit {0}) Refused} → o ≡ place_found p n → x ≡ found_at r o
+      → x ≡ tested (ltb (first p n) n) (refused_at r (first p n + 1))
+  unfolding place_found
+  place_refused r i e = e ∙ ap (found_at r) i ∙ by_test (ltb (first p n) n)
+    where
+      by_test : (b : Bool) → found_at r (cond b (Some (first p n + 1)) None) ≡ tested b (refused_at r (first p n + 1))
+      by_test true = refl
+      by_test false = refl
 
 -- ---- writing
 

@@ -1,5 +1,5 @@
 -- What only the code's steps need. Assumes nothing: these are definitions.
-use Rattle.std.specs.Prelude.{ℕ, suc, ◌+◌, ◌*◌, ◌^◌, ◌<◌, ◌≤◌, Bool, false, cond, not, ◌&&◌, ◌||◌, ◌≡◌, List, ◌++◌, ltb, eqb, length, take, drop}
+use Rattle.std.specs.Prelude.{ℕ, suc, ◌+◌, ◌*◌, ◌^◌, ◌<◌, ◌≤◌, Bool, false, cond, not, ◌&&◌, ◌||◌, ◌≡◌, List, ◌++◌, Option, Some, None, ltb, eqb, length, take, drop}
 use Rattle.prelude.specs.Loops.{first}
 use Rattle.answer.specs.Numbers.{bad_entry, misplaced}
 use Rattle.answer.specs.Rows.{done, refused}
@@ -31,6 +31,10 @@ off_rule_at size s n e from len = cut_off size e || (not (eqb (offset_in s e) fr
 -- the count missing or outside its set
 abbrev pub bad_count_of : ℕ → ℕ → Bool
 bad_count_of size n = ltb size (head_bytes 0) || count_outside n
+
+-- the place, counted from 1, of the first of n entries that a test picks
+unfoldable pub place_found : (ℕ → Bool) → ℕ → Option ℕ
+place_found p n = cond (ltb (first p n) n) (Some (first p n + 1)) None
 
 -- what is answered of n entries, by the first that are bad
 unfoldable pub entries_answer : ℕ → List ℕ → ℕ → Answer

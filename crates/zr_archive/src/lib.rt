@@ -1,7 +1,7 @@
 // The commands on capture files. They make and read the head alone: the launcher copies the bodies.
 #![tactic(auto)]
 
-use archive::{BEFORE_ENTRIES, ENTRY_BYTES, MOST_ENTRIES};
+use archive::{BEFORE_ENTRIES, ENTRY_BYTES, Kind, MOST_ENTRIES};
 use std::io;
 use std::io::Write;
 use zr_shell::Shell;
@@ -52,14 +52,21 @@ fn make<W: Write>(
     }
 }
 
-// The kind that argument i names. The launcher takes no other word; here it is 0, which the library refuses.
+// The number of the kind that argument i names. The launcher takes no other word; here it is 0, which the library refuses.
 fn kind_at<W: Write>(shell: &Shell<W>, i: usize) -> u64 {
     let mut space = [0u8; ARGUMENT_BYTES];
-    match shell.argument(i, &mut space) {
-        b"information" => 1,
-        b"parity" => 2,
-        b"capture" => 3,
-        _ => 0,
+    match kind_named(shell.argument(i, &mut space)) {
+        Some(kind) => kind.number(),
+        None => 0,
+    }
+}
+
+fn kind_named(word: &[u8]) -> Option<Kind> {
+    match word {
+        b"information" => Some(Kind::Information),
+        b"parity" => Some(Kind::Parity),
+        b"capture" => Some(Kind::Capture),
+        _ => None,
     }
 }
 

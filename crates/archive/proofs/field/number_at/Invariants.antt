@@ -1,10 +1,6 @@
 -- `archive::field::number_at` meets its contract: a byte a turn. Assumes nothing.
-use Prim.Native.Nat.{◌-◌}
 use Rattle.archive_spec.proofs.Fields.{NumberTo}
 use Rattle.archive.proofs.field.number_at.Given as goal
 
 abbrev pub invariant-loop-j : goal.invariant-loop-j
 invariant-loop-j l = NumberTo l.k l.s l.a l.j l.x
-
-abbrev pub decreases-loop-j : goal.decreases-loop-j
-decreases-loop-j l = l.k - l.j

@@ -1,11 +1,7 @@
 -- `archive::opening::first_bad_kind` meets its contract: an entry a turn. Assumes nothing.
-use Prim.Native.Nat.{◌-◌}
 use Rattle.prelude.proofs.LoopLaws.{PassedOver}
 use Rattle.archive_spec.specs.Read.{bad_kind}
 use Rattle.archive.proofs.opening.first_bad_kind.Given as goal
 
 abbrev pub invariant-loop-e : goal.invariant-loop-e
 invariant-loop-e l = PassedOver l.e (bad_kind l.size l.s) l.n
-
-abbrev pub decreases-loop-e : goal.decreases-loop-e
-decreases-loop-e l = l.n - l.e

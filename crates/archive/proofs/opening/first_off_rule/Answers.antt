@@ -1,6 +1,7 @@
 -- `archive::opening::first_off_rule` meets its contract: an entry a turn. Assumes nothing.
 use native.Mathlib.Omega.{arith}
 use Rattle.archive_spec.proofs.Starts.{walked_none, walked_end, off_here, off_more, rule_small}
+use Rattle.archive_spec.proofs.Judging.{place_here, place_none}
 use borrow.Author.Rules.{rules}
 use Rattle.archive.proofs.opening.first_off_rule.Goals as goal
 
@@ -12,10 +13,10 @@ pub loop-e-init : goal.loop-e-init
 loop-e-init c = search walked_none
 
 pub returns-then-is_off_rule : goal.returns-then-is_off_rule
-returns-then-is_off_rule c = search (off_here, rules)
+returns-then-is_off_rule c = place_here _ _ (search (off_here, rules)) (omega arith)
 
 pub loop-e-preserved : goal.loop-e-preserved
 loop-e-preserved c = search (off_more, rules)
 
 pub returns : goal.returns
-returns c = search (walked_end, rules)
+returns c = place_none _ _ (walked_end c.loop-e.invariant (omega arith)) (omega arith)

@@ -1,35 +1,24 @@
 -- `archive::opening::judge_entries` meets its contract: its tests in turn. Assumes nothing.
-use native.Mathlib.Omega.{arith}
+use Rattle.answer.specs.declared.refusal.Refusal.TheVariants.{BadEntry, Misplaced}
 use Rattle.answer.proofs.Results.{test_held, test_gone}
 use Rattle.archive_spec.specs.Steps.{entries_answer}
-use Rattle.archive_spec.proofs.Judging.{few_found}
+use Rattle.archive_spec.proofs.Judging.{place_refused}
 use Rattle.archive.proofs.Refusing.{handed_on}
 use Rattle.archive.proofs.opening.judge_entries.Goals as goal
 
-pub overflow_add-off : goal.overflow_add-off
-overflow_add-off c = omega (arith, few_found _ _ c.first_off_rule-off.ensures)
-
-pub overflow_add-bad : goal.overflow_add-bad
-overflow_add-bad c = omega (arith, few_found _ _ c.first_bad_kind-bad.ensures)
-
-pub returns-in_err-refuse_if : goal.returns-in_err-refuse_if
+pub returns-in_err-refuse_at : goal.returns-in_err-refuse_at
 unfolding entries_answer
-returns-in_err-refuse_if c = let h = test_held _ c.in_err-refuse_if.ensures in
-    rw (handed_on c.from_residual.ensures.1, ← h.1, ← c.first_bad_kind-bad.ensures, h.0)
+returns-in_err-refuse_at c = let h = test_held _ (place_refused _ _ BadEntry c.first_bad_kind-bad.ensures c.in_err-refuse_at.ensures) in
+    rw (handed_on c.from_residual.ensures.1, ← h.1, h.0)
 
-pub returns-in_err-refuse_if-2 : goal.returns-in_err-refuse_if-2
+pub returns-in_err-refuse_at-2 : goal.returns-in_err-refuse_at-2
 unfolding entries_answer
-returns-in_err-refuse_if-2 c = let h = test_held _ c.in_err-refuse_if-2.ensures in
-    rw (
-      handed_on c.from_residual-in_err-refuse_if-2.ensures.1,
-      ← h.1,
-      ← c.first_bad_kind-bad.ensures,
-      ← c.first_off_rule-off.ensures,
-      test_gone _ c.in_ok-refuse_if.ensures,
-      h.0,
-    )
+returns-in_err-refuse_at-2 c = let h = test_held _ (place_refused _ _ Misplaced c.first_off_rule-off.ensures c.in_err-refuse_at-2.ensures) in
+    let g = test_gone _ (place_refused _ _ BadEntry c.first_bad_kind-bad.ensures c.in_ok-refuse_at.ensures) in
+    rw (handed_on c.from_residual-in_err-refuse_at-2.ensures.1, ← h.1, g, h.0)
 
 pub returns : goal.returns
 unfolding entries_answer
-returns c =
-    rw (← c.first_bad_kind-bad.ensures, ← c.first_off_rule-off.ensures, test_gone _ c.in_ok-refuse_if.ensures, test_gone _ c.in_ok-refuse_if-2.ensures)
+returns c = let g = test_gone _ (place_refused _ _ BadEntry c.first_bad_kind-bad.ensures c.in_ok-refuse_at.ensures) in
+    let h = test_gone _ (place_refused _ _ Misplaced c.first_off_rule-off.ensures c.in_ok-refuse_at-2.ensures) in
+    rw (g, h)

@@ -1,0 +1,2 @@
+-- What a body of a capture file is.
+pub mod Kinds
