@@ -1,11 +1,13 @@
 -- Bytes read one at a time are read as what they are together. Assumes nothing.
 use Prim.Native.Nat.{ℕ, zero, suc, ◌+◌, ◌-◌, ◌*◌, ◌≤◌, min}
 use mathlib.Core.Bool.{Bool, true, false, cond, ◌&&◌}
-use mathlib.Core.Path.{◌≡◌, refl, sym, ap₂, ◌∙◌}
+use mathlib.Core.Path.{◌≡◌, refl, sym, ap, ap₂, ◌∙◌}
 use mathlib.Core.List.{List}
+use Rattle.std.specs.Prelude.{Option, Some, None}
+use native.Mathlib.Decide.{dec_le}
 use native.Mathlib.Omega.{arith}
-use borrow.Author.Tests.{ltb-false, le-ltb, ne_eqb}
-use lib.Dec.{ltb, eqb, eqb-suc-suc}
+use borrow.Author.Tests.{le-ltb, ne_eqb}
+use lib.Dec.{eqb, eqb-suc-suc}
 use lib.ListN.{get_or}
 use Rattle.prelude.specs.Loops.{upto, count}
 use Rattle.prelude.proofs.Counting.{count_le}
@@ -34,35 +36,41 @@ decimal_more : (s : List ℕ) (k : ℕ) → decimal s (suc k) ≡ decimal s k * 
 unfolding decimal upto
 decimal_more s k = refl
 
-module _ (m x : ℕ) (h : m ≤ x) where
-  seen_more : (d : Bool) (v b : ℕ) → next_value m x (seen m x d v) b ≡ seen m x (d && is_digit b) (v * 10 + (b - 48))
+module _ (m : ℕ) where
+  -- byte k of s behind what was seen of the bytes before it
+  seen_more : (s : List ℕ) (k : ℕ) (d : Bool) (v : ℕ)
+      → next_at m s k (seen m d v) ≡ seen m (d && is_digit (get_or s k 0)) (v * 10 + (get_or s k 0 - 48))
   unfolding next_value seen
-  seen_more false v b = by (ltb m x) (is_digit b) refl
+  seen_more s k false v = refl
+  seen_more s k true v = rw (le-ltb m (min v m) (omega arith)) (by (is_digit (get_or s k 0)))
     where
-      by : (t u : Bool) → ltb m x ≡ t → cond t x (cond u (min (x * 10 + (b - 48)) m) x) ≡ x
-      by true u e = refl
-      by false true e = omega (arith, ltb-false m x e)
-      by false false e = refl
-  seen_more true v b = rw (le-ltb m (min v m) (omega arith)) (by (is_digit b))
-    where
-      by : (t : Bool) → cond t (min (min v m * 10 + (b - 48)) m) x ≡ cond t (min (v * 10 + (b - 48)) m) x
-      by true = omega arith
+      by : (t : Bool) → cond t (Some (min (min v m * 10 + (get_or s k 0 - 48)) m)) None ≡ cond t (Some (min (v * 10 + (get_or s k 0 - 48)) m)) None
+      by true = ap Some (omega arith)
       by false = refl
 
   -- ---- so many bytes
 
-  abbrev pub read : List ℕ → ℕ → ℕ
-  read s k = seen m x (all_digits s k) (decimal s k)
+  abbrev pub read : List ℕ → ℕ → Option ℕ
+  read s k = seen m (all_digits s k) (decimal s k)
 
-  pub read_none : (s : List ℕ) → 0 ≡ read s 0
+  pub read_none : (s : List ℕ) → Some 0 ≡ read s 0
   unfolding seen all_digits count decimal upto
-  read_none s = omega arith
+  read_none s = ap Some (omega arith)
 
-  pub read_more : (s : List ℕ) (k : ℕ) → next_at m x s k (read s k) ≡ read s (suc k)
-  read_more s k = seen_more (all_digits s k) (decimal s k) (get_or s k 0) ∙ ap₂ (seen m x) (sym (digits_more s k)) (sym (decimal_more s k))
+  pub read_more : (s : List ℕ) (k : ℕ) → next_at m s k (read s k) ≡ read s (suc k)
+  read_more s k = seen_more s k (all_digits s k) (decimal s k) ∙ ap₂ (seen m) (sym (digits_more s k)) (sym (decimal_more s k))
 
   -- WHAT IS READ of k bytes
-  pub read_all : (s : List ℕ) (k : ℕ) → upto (next_at m x s) 0 k ≡ read s k
+  pub read_all : (s : List ℕ) (k : ℕ) → upto (next_at m s) (Some 0) k ≡ read s k
   unfolding upto
   read_all s zero = read_none s
   read_all s (suc k) = rw (read_all s k) (read_more s k)
+
+  -- bytes of which not all are digits stay that, however many follow
+  pub read_stays : (s : List ℕ) (k : ℕ) → read s k ≡ None → (n : ℕ) → k ≤ n → read s n ≡ None
+  read_stays s k e zero h = let z : k ≡ 0 = omega arith in rw (← z) e
+  read_stays s k e (suc n) h = by (dec_le k n) (read_stays s k e n)
+    where
+      by : Dec (k ≤ n) → (k ≤ n → read s n ≡ None) → read s (suc n) ≡ None
+      by (yes l) stays = rw (← read_more s n, stays l) refl
+      by (no l) stays = let z : k ≡ suc n = omega arith in rw (← z) e

@@ -4,23 +4,14 @@
 ghost use Rattle.std.specs.Prelude.{◌≡◌};
 ghost use Rattle.decimal.specs.Steps.{next_value};
 
-// One byte more behind bytes that were read as v. A number above `most` is read as `most`, and bytes that are not all digits as `none`.
-pub fn next_value(most: u32, none: u32, v: u64, b: u8) -> u64
-    ensures { result ≡ next_value most none v b }
+// One byte more behind digits that were read as v; none where it is no digit. A number above `most` is read as `most`.
+pub fn next_value(most: u32, v: u64, b: u8) -> Option<u64>
+    ensures { result ≡ next_value most v b }
 {
-    if (most as u64) < v {
-        return none as u64;
+    let most = u64::from(most);
+    if most < v || !b.is_ascii_digit() {
+        return None;
     }
-    if b < b'0' {
-        return none as u64;
-    }
-    if b'9' < b {
-        return none as u64;
-    }
-    let next = v * 10 + (b - b'0') as u64;
-    if (most as u64) < next {
-        most as u64
-    } else {
-        next
-    }
+    let next = v * 10 + u64::from(b - b'0');
+    Some(next.min(most))
 }

@@ -12,6 +12,7 @@ use Rattle.std.proofs.lemmas.Result.{IfOk-at_ok}
 use Rattle.answer.specs.Numbers.{all_done, outside_set}
 use Rattle.answer.specs.Refusals.{refused_at, number_of, answered}
 use Rattle.answer.specs.declared.refusal.Refused.{Refused}
+use Rattle.answer.specs.declared.refusal.Refusal.{Refusal}
 use Rattle.answer.specs.declared.refusal.Refusal.TheVariants.{OutsideSet}
 use Rattle.answer.specs.Rows.{done, refused}
 use Rattle.answer.specs.Steps.{in_turn, row_then}
@@ -38,8 +39,10 @@ pub kind_is : (c j : ℕ) {d b : Bool} → d ≡ is_data c j → d ≡ b → is_
 kind_is c j e h = sym e ∙ h
 
 -- no refusal has the number of what is done
-pub never_done : (e : Refused) → e.place ≡ 0 → number_of e.refusal ≡ all_done → ⊥
-never_done e p n = let s : answered (Err e) ≡ answered (Ok 0) = rw (p, n) refl in shown (Err e) (same_numbers s) (tt {0})
+pub never_done : (r : Refusal) → number_of r ≡ all_done → ⊥
+never_done r n =
+    let s : answered (Err (refused_at r 0)) ≡ answered (Ok 0) = rw n refl in
+    shown (Err (refused_at r 0)) (same_numbers s) (tt {0})
   where
     shown : (x : Result ℕ Refused) → x ≡ Ok 0 → IfOk x (λ _. ⊥) → ⊥
     shown x h y = IfOk-at_ok (λ _. ⊥) h y
@@ -84,7 +87,7 @@ module _ (c j : ℕ) where
     where
       by : (b : Bool) → number_of e.refusal ≡ cond b outside_set all_done → answered (Err e) ≡ cond b (refused outside_set 0) (done (runs_from c j))
       by true n = rw (p, n) refl
-      by false n = absurd (never_done e p n)
+      by false n = absurd (never_done e.refusal n)
 
   pub runs_told : {n : ℕ} → Place c j → n ≡ runs_from c j → answered (Ok n) ≡ runs_of c j
   unfolding runs_of in_turn row_then

@@ -38,8 +38,8 @@ told_once (Ok r) (Ok s) e p q =
 told_once (Err a) (Err b) e p q =
     let s : answered (Err a) ≡ answered (Err b) = rw (p, q, ap (λ (z : Told). z.number) e) in
     ap Err (same_refused (Err a) (same_numbers s) refl)
-told_once (Ok r) (Err b) e p q = absurd (never_done b q (sym (ap (λ (z : Told). z.number) e)))
-told_once (Err a) (Ok s) e p q = absurd (never_done a p (ap (λ (z : Told). z.number) e))
+told_once (Ok r) (Err b) e p q = absurd (never_done b.refusal (sym (ap (λ (z : Told). z.number) e)))
+told_once (Err a) (Ok s) e p q = absurd (never_done a.refusal (ap (λ (z : Told). z.number) e))
 
 pub one_run : (κs : _) (a : _) (x y : _) (s t : _) → run.Post κs a x s → run.Post κs a y t → x ≡ y
 one_run κs a x y s t p q = told_once x y (only p.0 q.0) p.1 q.1

@@ -4,9 +4,9 @@ use mathlib.Core.Path.{◌≡◌}
 use Rattle.prelude.proofs.Common.{only}
 use Rattle.answer.proofs.Results.{same_numbers}
 use Rattle.gmp_count.proofs.count_of.Reads as count_of
-use Rattle.gmp_count.proofs.start.Reads as start
-use Rattle.gmp_count.proofs.more.Reads as more
-use Rattle.gmp_count.proofs.so_far.Reads as so_far
+use Rattle.gmp_count.proofs.Partial.start.Reads as start
+use Rattle.gmp_count.proofs.Partial.more.Reads as more
+use Rattle.gmp_count.proofs.Partial.so_far.Reads as so_far
 
 pub one_count_of : (κs : _) (a : _) (x y : _) (s t : _) → count_of.Post κs a x s → count_of.Post κs a y t → x ≡ y
 one_count_of κs a x y s t p q = same_numbers (only p q)

@@ -10,6 +10,8 @@ use borrow.Author.Tests.{ltb-true, ltb-false, lt-ltb, le-ltb}
 use lib.Dec.{ltb, eqb, eqb-suc-zero}
 use lib.ListN.{length, length-append, get_or-append}
 use lib.Seq.{get_or-append-add}
+use Rattle.std.specs.Prelude.{Option, Some, None, get_or}
+use Rattle.std.specs.Option.{unwrap_or, option_flatten}
 use Rattle.prelude.specs.Loops.{upto}
 use Rattle.prelude.proofs.LoopLaws.{First, first_holds}
 use Rattle.answer.specs.Numbers.{outside_set}
@@ -18,11 +20,11 @@ use Rattle.answer.specs.Steps.{in_turn, row_then}
 use Rattle.answer.specs.declared.Answer.{Answer}
 use Rattle.answer.proofs.Turns.{in_turn_law}
 use Rattle.decimal.specs.Digits.{all_digits, decimal}
-use Rattle.decimal.specs.Steps.{seen}
+use Rattle.decimal.specs.Steps.{seen, next_at}
 use Rattle.decimal.proofs.Reading.{read, read_none, read_more}
 use Rattle.sizes.specs.Sizes.{places}
 use Rattle.gmp_count.specs.Count.{is_feed, first_length, no_count, count_of}
-use Rattle.gmp_count.specs.Steps.{too_much, nothing_read, step_of, step_at, more_of, so_far}
+use Rattle.gmp_count.specs.Steps.{too_much, nothing_read, next_of, step_of, step_at, more_of, counted, so_far}
 use Rattle.gmp_count.specs.declared.Partial.{Partial}
 
 -- ---- within the line
@@ -35,36 +37,42 @@ module _ (s : List ℕ) where
   unfolding first_length
   feed_first = first_holds (is_feed s) (length s)
 
-  abbrev number : ℕ → ℕ
-  number k = read too_much too_much (omega arith) s k
+  -- what k bytes of the line are: nothing where there are none
+  abbrev number : ℕ → Option (Option ℕ)
+  number k = cond (ltb 0 k) (Some (read too_much s k)) None
+
+  number_or : (k : ℕ) → unwrap_or (number k) (Some 0) ≡ read too_much s k
+  number_or zero = read_none too_much s
+  number_or (suc k) = rw (lt-ltb 0 (suc k) (omega arith))
+
+  next_read : (v : Option ℕ) (k : ℕ) → next_of v (get_or s k 0) ≡ next_at too_much s k v
+  next_read (Some v) k = refl
+  next_read None k = refl
 
   -- after k bytes of the line
-  within : (k : ℕ) → k ≤ n → upto (step_at s) nothing_read k ≡ record { value = number k; some = ltb 0 k; ended = false }
+  within : (k : ℕ) → k ≤ n → upto (step_at s) nothing_read k ≡ record { value = number k; ended = false }
   unfolding upto step_at step_of
-  within zero h = rw (← read_none too_much too_much (omega arith) s)
-  within (suc k) h = rw (within k (omega arith), feed_first.none k h, read_more too_much too_much (omega arith) s k, lt-ltb 0 (suc k) (omega arith))
+  within zero h = refl
+  within (suc k) h =
+      rw (within k (omega arith), feed_first.none k h, number_or k, next_read (read too_much s k) k, read_more too_much s k, lt-ltb 0 (suc k) (omega arith))
 
   -- after the line feed nothing counts
-  behind : (k : ℕ) → n < length s → upto (step_at s) nothing_read (suc (n + k)) ≡ record { value = number n; some = ltb 0 n; ended = true }
+  behind : (k : ℕ) → n < length s → upto (step_at s) nothing_read (suc (n + k)) ≡ record { value = number n; ended = true }
   unfolding upto step_at step_of
   behind zero h = rw (add-zero n, within n (omega arith), feed_first.here h)
   behind (suc k) h = rw (add-suc n k, behind k h)
 
   -- what is kept of the whole input
-  pub record Kept (l : Partial) : Type 0 where
-    pub value_is : l.value ≡ number n
-    pub some_is : l.some ≡ ltb 0 n
-
-  kept : Kept (more_of nothing_read s)
+  pub kept : (more_of nothing_read s).value ≡ number n
   kept = ⊎_elim at_end past (eq-or-lt_of_le feed_first.within)
     where
-      by : (ended : Bool) → more_of nothing_read s ≡ record { value = number n; some = ltb 0 n; ended = ended } → Kept (more_of nothing_read s)
-      by ended w = record { value_is = ap (λ (l : Partial). l.value) w; some_is = ap (λ (l : Partial). l.some) w }
+      by : (ended : Bool) → more_of nothing_read s ≡ record { value = number n; ended = ended } → (more_of nothing_read s).value ≡ number n
+      by ended w = ap (λ (l : Partial). l.value) w
 
-      at_end : n ≡ length s → Kept (more_of nothing_read s)
+      at_end : n ≡ length s → (more_of nothing_read s).value ≡ number n
       at_end e = by false (ap (upto (step_at s) nothing_read) (sym e) ∙ within n (omega arith))
 
-      past : n < length s → Kept (more_of nothing_read s)
+      past : n < length s → (more_of nothing_read s).value ≡ number n
       past h =
           let e : suc (n + (length s - suc n)) ≡ length s = omega arith in
           by true (ap (upto (step_at s) nothing_read) (sym e) ∙ behind (length s - suc n) h)
@@ -86,8 +94,7 @@ module _ (v : ℕ) where
       rw (le-ltb places v (omega arith), m)
 
   same_verdict : (n : ℕ) (d : Bool)
-      → cond (not (ltb 0 n)) (refused outside_set 0) (cond (ltb places (seen too_much too_much d v)) (refused outside_set 0) (done (seen too_much too_much d v)))
-      ≡ cond (eqb n 0 || (not d || ltb places v)) (refused outside_set 0) (done v)
+      → counted (option_flatten (cond (ltb 0 n) (Some (seen too_much d v)) None)) ≡ cond (eqb n 0 || (not d || ltb places v)) (refused outside_set 0) (done v)
   unfolding seen
   same_verdict zero d = refl
   same_verdict (suc n) false = rw (eqb-suc-zero n, lt-ltb 0 (suc n) (omega arith))
@@ -96,9 +103,7 @@ module _ (v : ℕ) where
 -- THE COUNT: what was read of the whole input is the count of its first line
 pub read_whole : (s : List ℕ) → so_far (more_of nothing_read s) ≡ count_of s
 unfolding so_far
-read_whole s =
-    let k = kept s in
-    rw (k.value_is, k.some_is, count_chain s) (same_verdict (decimal s (first_length s)) (first_length s) (all_digits s (first_length s)))
+read_whole s = rw (kept s, count_chain s) (same_verdict (decimal s (first_length s)) (first_length s) (all_digits s (first_length s)))
 
 -- the same of what the code's three calls answered
 pub read_by : (s : List ℕ) {l m : Partial} {a : Answer} → l ≡ nothing_read → m ≡ more_of l s → a ≡ so_far m → a ≡ count_of s

@@ -4,6 +4,7 @@
 ghost use Rattle.std.specs.Prelude.{◌≡◌, ◌+◌, ◌*◌, ◌/◌, ◌≤◌, ◌<◌, min, length};
 ghost use Rattle.prelude.specs.Lists.{tabulate};
 ghost use Rattle.bits.specs.Bits.{num, byte_of, pack};
+ghost use Rattle.answer.specs.Refusals.{answered};
 ghost use Rattle.gmp.specs.Places.{data_from};
 ghost use Rattle.gmp.specs.Steps.{DataIn};
 ghost use Rattle.gmp_window.specs.Windows.{Window};
@@ -11,29 +12,25 @@ ghost use Rattle.sizes.specs.Sizes.{places, group_bits, pair_bytes, group_bytes,
 ghost use Rattle.gmp_map.specs.Groups.{window_bit, groups_bit, Mapped, Unmapped};
 ghost use Rattle.gmp_map.specs.Steps.{GroupAt, piece, pair_bit};
 
-use answer::Answer;
+use answer::Refused;
 use sizes::{GROUP_BITS, PAIR_BYTES, PLACES};
 
 // Writes the data groups into their places of a window, and zeros into stuff.
-pub fn map(c: u64, f: u64, n: u64, groups: &[u8], window: &mut [u8]) -> Answer
-    ensures { Mapped c f n groups.now window.old result window.new }
+pub fn map(c: u64, f: u64, n: u64, groups: &[u8], window: &mut [u8]) -> Result<u64, Refused>
+    ensures { Mapped c f n groups.now window.old (answered result) window.new }
 {
-    let answer = gmp_window::map_answer(c, f, n, groups, window.len());
-    if answer.number == 0 {
-        fill_window(c, f, n, groups, window);
-    }
-    answer
+    let d = gmp_window::map_answer(c, f, n, groups, window.len())?;
+    fill_window(c, f, n, groups, window);
+    Ok(d)
 }
 
 // Gives the data groups of a window back. Stuff is not looked at.
-pub fn unmap(c: u64, f: u64, n: u64, window: &[u8], groups: &mut [u8]) -> Answer
-    ensures { Unmapped c f n window.now groups.old result groups.new }
+pub fn unmap(c: u64, f: u64, n: u64, window: &[u8], groups: &mut [u8]) -> Result<u64, Refused>
+    ensures { Unmapped c f n window.now groups.old (answered result) groups.new }
 {
-    let answer = gmp_window::unmap_answer(c, f, n, window.len(), groups.len());
-    if answer.number == 0 {
-        fill_groups(c, f, n, window, groups);
-    }
-    answer
+    let d = gmp_window::unmap_answer(c, f, n, window.len(), groups.len())?;
+    fill_groups(c, f, n, window, groups);
+    Ok(d)
 }
 
 // Eight bits of s from bit `at` on, or zeros where they are not wanted.

@@ -12,13 +12,12 @@ use Rattle.bits.proofs.Packing.{bit_of_lt}
 use Rattle.sizes.specs.Sizes.{group_bits}
 use Rattle.gmp_window.specs.Windows.{groups_spare_set}
 
-pub spare_even : (d : ℕ) (g : List ℕ) → d % 2 ≡ 0 → false ≡ groups_spare_set d g
+pub spare_even : (d : ℕ) (g : List ℕ) → (d % 2 ≡ 1 → ⊥) → false ≡ groups_spare_set d g
 unfolding groups_spare_set
-spare_even d g h = rw (ne_eqb (d % 2) 1 (λ e. omega arith))
+spare_even d g h = rw (ne_eqb (d % 2) 1 h)
 
-pub spare_odd : (d : ℕ) (g : List ℕ) {x : ℕ} → (d % 2 ≡ 0 → ⊥) → x ≡ num 8 (bit_at g) (group_bits * d) → not (eqb (x / 16) 0) ≡ groups_spare_set d g
+pub spare_odd : (d : ℕ) (g : List ℕ) {x : ℕ} → d % 2 ≡ 1 → x ≡ num 8 (bit_at g) (group_bits * d) → not (eqb (x / 16) 0) ≡ groups_spare_set d g
 unfolding groups_spare_set
 spare_odd d g {x} h e =
-    let o : d % 2 ≡ 1 = omega arith in
     let u : x / 16 ≡ num 4 (bit_at g) (group_bits * d) = ap (λ (y : ℕ). y / 16) e ∙ num_front 4 4 (bit_at g) (group_bits * d) (bit_of_lt 8 g) in
-    rw (u, eq-eqb (d % 2) 1 o)
+    rw (u, eq-eqb (d % 2) 1 h)

@@ -2,53 +2,39 @@
 #![tactic(auto)]
 
 ghost use Rattle.std.specs.Prelude.{◌≡◌, ◌≤◌};
+ghost use Rattle.answer.specs.Refusals.{answered};
 ghost use Rattle.sizes.specs.Sizes.{places, group_bytes, window_bytes};
 ghost use Rattle.gmp_window.specs.Windows.{outside_window, groups_spare_set};
 ghost use Rattle.gmp_window.specs.Answers.{map_answer, unmap_answer};
 
-use answer::Answer;
+use answer::{Refusal, Refused};
 use sizes::{GROUP_BITS, PAIR_BYTES};
 
 // What mapping answers: its buffers are the groups and the window.
-pub fn map_answer(c: u64, f: u64, n: u64, groups: &[u8], window: usize) -> Answer
-    ensures { result ≡ map_answer c f n groups.now window }
+pub fn map_answer(c: u64, f: u64, n: u64, groups: &[u8], window: usize) -> Result<u64, Refused>
+    ensures { answered result ≡ map_answer c f n groups.now window }
 {
-    if outside_window(c, f, n) {
-        return answer::refuse(answer::OUTSIDE_SET, 0);
-    }
+    answer::refuse_if(outside_window(c, f, n), Refusal::OutsideSet, 0)?;
     let d = gmp::data_in(c, f, n);
-    answer::refuse_length(
-        1,
-        groups.len() as u64,
-        group_bytes(d),
-        answer::refuse_length(
-            2,
-            window as u64,
-            window_bytes(n),
-            answer::refuse_if(
-                spare_set(d, groups),
-                answer::SPARE_BIT,
-                answer::buffer_place(1),
-                answer::granted(d),
-            ),
-        ),
-    )
+    answer::refuse_length(1, groups.len() as u64, group_bytes(d))?;
+    answer::refuse_length(2, window as u64, window_bytes(n))?;
+    answer::refuse_if(
+        spare_set(d, groups),
+        Refusal::SpareBit,
+        answer::buffer_place(1),
+    )?;
+    Ok(d)
 }
 
 // What unmapping answers: its buffers are the window and the groups.
-pub fn unmap_answer(c: u64, f: u64, n: u64, window: usize, groups: usize) -> Answer
-    ensures { result ≡ unmap_answer c f n window groups }
+pub fn unmap_answer(c: u64, f: u64, n: u64, window: usize, groups: usize) -> Result<u64, Refused>
+    ensures { answered result ≡ unmap_answer c f n window groups }
 {
-    if outside_window(c, f, n) {
-        return answer::refuse(answer::OUTSIDE_SET, 0);
-    }
+    answer::refuse_if(outside_window(c, f, n), Refusal::OutsideSet, 0)?;
     let d = gmp::data_in(c, f, n);
-    answer::refuse_length(
-        1,
-        window as u64,
-        window_bytes(n),
-        answer::refuse_length(2, groups as u64, group_bytes(d), answer::granted(d)),
-    )
+    answer::refuse_length(1, window as u64, window_bytes(n))?;
+    answer::refuse_length(2, groups as u64, group_bytes(d))?;
+    Ok(d)
 }
 
 // The bytes of d data groups.
@@ -71,16 +57,7 @@ fn window_bytes(n: u64) -> u64
 fn outside_window(c: u64, f: u64, n: u64) -> bool
     ensures { result ≡ outside_window c f n }
 {
-    if f % 2 == 0 {
-        return true;
-    }
-    if n % 2 == 1 {
-        return true;
-    }
-    if n < 2 {
-        return true;
-    }
-    gmp::outside_stretch(c, f, n)
+    f % 2 == 0 || n % 2 == 1 || n < 2 || gmp::outside_stretch(c, f, n)
 }
 
 // Whether there is an odd number of groups and one of the last four bits is set.
@@ -88,8 +65,5 @@ fn spare_set(d: u64, groups: &[u8]) -> bool
     requires { d ≤ places }
     ensures { result ≡ groups_spare_set d groups.now }
 {
-    if d % 2 == 0 {
-        return false;
-    }
-    bits::byte_from(groups, GROUP_BITS * (d as usize)) / 16 != 0
+    d % 2 == 1 && bits::byte_from(groups, GROUP_BITS * (d as usize)) / 16 != 0
 }

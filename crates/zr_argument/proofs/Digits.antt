@@ -1,40 +1,50 @@
 -- An argument read byte by byte is the number that its digits are. Assumes nothing.
-use Prim.Native.Nat.{ℕ, suc, min}
+use Prim.Native.Nat.{ℕ, suc, ◌+◌, ◌≤◌, ◌<◌, min}
 use mathlib.Core.Bool.{Bool, true, false, cond, not}
 use mathlib.Core.Path.{◌≡◌, refl, sym, ap, ◌∙◌}
 use mathlib.Core.List.{List}
 use native.Mathlib.Omega.{arith}
 use borrow.Author.Tests.{eq-eqb, ne_eqb}
-use lib.ListN.{length}
-use Rattle.prelude.specs.Loops.{upto}
+use lib.ListN.{length, get_or}
+use lib.Dec.{eqb}
+use Rattle.std.specs.Prelude.{Some, None}
 use Rattle.decimal.specs.Digits.{all_digits, decimal}
-use Rattle.decimal.specs.Steps.{seen, next_at}
-use Rattle.decimal.proofs.Reading.{read, read_all}
+use Rattle.decimal.specs.Steps.{seen, next_value}
+use Rattle.decimal.proofs.Reading.{read, read_none, read_more, read_stays}
 use Rattle.zr_argument.specs.Numbers.{most, number_of}
-use Rattle.zr_argument.specs.declared.Number.TheVariants.{Is, Not}
 
-pub not_empty : (s : List ℕ) → length s ≡ 0 → Not ≡ number_of s
-unfolding number_of
-not_empty s e = rw (eq-eqb (length s) 0 e)
+-- the first k bytes were read as v
+pub record Read (s : List ℕ) (k v : ℕ) : Type 0 where
+  pub within : k ≤ length s
+  pub is : read most s k ≡ Some v
 
-module _ (s : List ℕ) (v : ℕ) (some : length s ≡ 0 → ⊥) (all : v ≡ upto (next_at most (suc most) s) 0 (length s)) where
-  here : v ≡ read most (suc most) (omega arith) s (length s)
-  here = all ∙ read_all most (suc most) (omega arith) s (length s)
+pub nothing : (s : List ℕ) → Read s 0 0
+nothing s = record { within = omega arith; is = sym (read_none most s) }
 
-  pub not_digits : v ≡ suc most → Not ≡ number_of s
+module _ (s : List ℕ) where
+  pub not_empty : length s ≡ 0 → None ≡ number_of s
+  unfolding number_of
+  not_empty e = rw (eq-eqb (length s) 0 e)
+
+  -- what is read of all bytes, of which there are some
+  whole : eqb (length s) 0 ≡ false → read most s (length s) ≡ number_of s
   unfolding number_of seen
-  not_digits e = rw (ne_eqb (length s) 0 some) (by (all_digits s (length s)) (sym e ∙ here))
+  whole some = rw some (by (all_digits s (length s)))
     where
-      by : (t : Bool) → suc most ≡ seen most (suc most) t (decimal s (length s)) → Not ≡ cond (not t) Not (Is (min (decimal s (length s)) most))
-      by true h = absurd (omega arith)
-      by false h = refl
+      by : (t : Bool) → cond t (Some (min (decimal s (length s)) most)) None ≡ cond (not t) None (Some (min (decimal s (length s)) most))
+      by true = refl
+      by false = refl
 
-  pub digits : (v ≡ suc most → ⊥) → Is v ≡ number_of s
-  unfolding number_of seen
-  digits e = rw (ne_eqb (length s) 0 some) (by (all_digits s (length s)) here)
-    where
-      by : (t : Bool) → v ≡ seen most (suc most) t (decimal s (length s)) → Is v ≡ cond (not t) Not (Is (min (decimal s (length s)) most))
-      by true h = ap Is h
-      by false h = absurd (e h)
+  module _ (k v : ℕ) (r : Read s k v) where
+    pub one_more : (w : ℕ) → k < length s → Some w ≡ next_value most v (get_or s k 0) → Read s (k + 1) w
+    one_more w h e =
+        let p : k + 1 ≡ suc k = omega arith in
+        record { within = omega arith; is = rw (p, ← read_more most s k, r.is, ← e) refl }
 
-pub ruleset answers = (not_empty, not_digits, digits)
+    pub no_digit : k < length s → None ≡ next_value most v (get_or s k 0) → None ≡ number_of s
+    no_digit h e =
+        let n : read most s (suc k) ≡ None = rw (← read_more most s k, r.is, ← e) refl in
+        sym (read_stays most s (suc k) n (length s) (omega arith)) ∙ whole (ne_eqb (length s) 0 (λ z. omega arith))
+
+    pub all_read : eqb (length s) 0 ≡ false → length s ≤ k → Some v ≡ number_of s
+    all_read some h = let p : k ≡ length s = omega (arith, r.within) in sym r.is ∙ ap (read most s) p ∙ whole some

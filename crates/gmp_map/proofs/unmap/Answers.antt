@@ -1,16 +1,20 @@
 -- `gmp_map::unmap` meets its contract: refused by the table, or filled. Assumes nothing.
+use mathlib.Core.Path.{refl}
 use lib.ListN.{length}
+use Rattle.std.proofs.lemmas.Result.{err_from_is_err_and}
 use Rattle.answer.proofs.Meets.{meets_done, meets_refused}
+use Rattle.gmp.proofs.Asked.{never_done}
 use Rattle.gmp_window.proofs.Judging.{unmap_taken}
 use Rattle.gmp_map.proofs.unmap.Goals as goal
 
+pub returns-in_err-d : goal.returns-in_err-d
+returns-in_err-d c = let p = err_from_is_err_and c.from_residual.result c.from_residual.ensures.1 in
+    rw (p.1, p.2) (meets_refused _ c.in_err-d.ensures (never_done _))
+
 pub fill_groups-requires : goal.fill_groups-requires
 fill_groups-requires c = let a = c.args in
-    let t = unmap_taken a.c a.f a.n (length a.window.now) (length a.groups.now) c.unmap_answer-answer.ensures c.if-answer-eq0.true in
+    let t = unmap_taken a.c a.f a.n (length a.window.now) (length a.groups.now) c.in_ok-d.ensures refl in
     (t.window, t.groups_length)
 
-pub returns-then-answer-eq0 : goal.returns-then-answer-eq0
-returns-then-answer-eq0 c = search meets_done
-
-pub returns-else-answer-eq0 : goal.returns-else-answer-eq0
-returns-else-answer-eq0 c = search meets_refused
+pub returns : goal.returns
+returns c = meets_done _ c.in_ok-d.ensures refl c.fill_groups.ensures

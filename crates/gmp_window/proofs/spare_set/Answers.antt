@@ -1,9 +1,11 @@
 -- `gmp_window::spare_set` meets its contract: the byte behind the last group has the four bits on top. Assumes nothing.
+use borrow.Author.Tests.{ne_eqb}
+use mathlib.Core.Path.{◌∙◌}
 use Rattle.gmp_window.proofs.Spares.{spare_even, spare_odd}
 use Rattle.gmp_window.proofs.spare_set.Goals as goal
 
-pub returns-then-d-eq0 : goal.returns-then-d-eq0
-returns-then-d-eq0 c = search spare_even
+pub returns-then-d-eq1 : goal.returns-then-d-eq1
+returns-then-d-eq1 c = search spare_odd
 
-pub returns : goal.returns
-returns c = search spare_odd
+pub returns-else-d-eq1 : goal.returns-else-d-eq1
+returns-else-d-eq1 c = ne_eqb _ _ c.if-d-eq1.false ∙ spare_even _ _ c.if-d-eq1.false
