@@ -1,9 +1,7 @@
 // Opens a capture file that is too large to hold: of what a reader gives, the first bytes are kept and all bytes are counted.
 #![tactic(auto)]
 
-ghost use Rattle.std.specs.Prelude.{◌<◌, ◌≤◌, IfOk};
-
-use answer::Answer;
+use answer::Refused;
 use archive::MOST_HEAD_BYTES;
 use std::io;
 use std::io::{Read, Seek, SeekFrom};
@@ -18,11 +16,10 @@ pub fn read<R: Read>(
     kinds: &mut [u64],
     offsets: &mut [u64],
     lengths: &mut [u64],
-) -> io::Result<Answer> {
+) -> io::Result<Result<u64, Refused>> {
     let mut first = [0u8; MOST_HEAD_BYTES];
     let bytes = read_until(from, 0, u64::MAX, &mut first)?;
-    let k = kept(bytes);
-    Ok(archive::read(bytes, &first[..k], kinds, offsets, lengths))
+    Ok(opened(bytes, &first, kinds, offsets, lengths))
 }
 
 // Lists the table of a file. One that can seek is asked for its size, and only its first bytes are read; any other is read to its end, as by `read`.
@@ -31,22 +28,22 @@ pub fn read_file<F: Read + Seek>(
     kinds: &mut [u64],
     offsets: &mut [u64],
     lengths: &mut [u64],
-) -> io::Result<Answer> {
+) -> io::Result<Result<u64, Refused>> {
     let mut first = [0u8; MOST_HEAD_BYTES];
     let bytes = look(from, &mut first)?;
-    let k = kept(bytes);
-    Ok(archive::read(bytes, &first[..k], kinds, offsets, lengths))
+    Ok(opened(bytes, &first, kinds, offsets, lengths))
 }
 
-// So many first bytes are kept.
-fn kept(size: u64) -> usize
-    ensures { result ≤ MOST_HEAD_BYTES }
-{
-    if size < MOST_HEAD_BYTES as u64 {
-        size as usize
-    } else {
-        MOST_HEAD_BYTES
-    }
+// Of a file that is shorter, no more is handed on than it has.
+fn opened(
+    bytes: u64,
+    first: &[u8; MOST_HEAD_BYTES],
+    kinds: &mut [u64],
+    offsets: &mut [u64],
+    lengths: &mut [u64],
+) -> Result<u64, Refused> {
+    let kept = bytes.min(MOST_HEAD_BYTES as u64) as usize;
+    archive::read(bytes, &first[..kept], kinds, offsets, lengths)
 }
 
 // How many bytes the file has.
@@ -78,7 +75,8 @@ fn read_until<R: Read>(reader: &mut R, from: u64, most: u64, first: &mut [u8]) -
             return Ok(bytes);
         }
         keep(bytes, &space[..n], first);
-        bytes = grown(bytes, n as u64);
+        // More than can be counted is counted as the most.
+        bytes = bytes.saturating_add(n as u64);
     }
     Ok(bytes)
 }
@@ -88,25 +86,7 @@ fn keep(from: u64, part: &[u8], first: &mut [u8]) {
     if first.len() as u64 <= from {
         return;
     }
-    let mut at = from as usize;
-    let mut k = 0;
-    while k < part.len() {
-        if first.len() <= at {
-            return;
-        }
-        first[at] = part[k];
-        at += 1;
-        k += 1;
-    }
-}
-
-// More than can be counted is counted as the most.
-fn grown(bytes: u64, more: u64) -> u64
-    requires { (bytes < 18446744073709551615) × (0 < more) }
-    ensures { bytes < result }
-{
-    if u64::MAX - bytes < more {
-        return u64::MAX;
-    }
-    bytes + more
+    let rest = &mut first[from as usize..];
+    let n = part.len().min(rest.len());
+    rest[..n].copy_from_slice(&part[..n]);
 }

@@ -1,7 +1,6 @@
 // Reads a capture file of any size from standard input and lists its table: document 02, M-100.
 #![tactic(auto)]
 
-use answer::Answer;
 use std::io;
 use std::io::Write;
 use zr_shell::said;
@@ -17,16 +16,12 @@ fn list<W: Write>(out: &mut W, rt: &HostRuntime) -> io::Result<()> {
     let mut kinds = [0u64; 32];
     let mut offsets = [0u64; 32];
     let mut lengths = [0u64; 32];
-    let opened = archive_input::read(&mut rt.stdin(), &mut kinds, &mut offsets, &mut lengths);
-    let answer: Answer = match opened {
-        Ok(answer) => answer,
+    match archive_input::read(&mut rt.stdin(), &mut kinds, &mut offsets, &mut lengths) {
+        Ok(Ok(count)) => archive_print::print(out, &kinds, &offsets, &lengths, count),
+        Ok(Err(refused)) => archive_print::print_refused(out, refused.refusal.number()),
         Err(error) => {
             said::reason(rt, b"standard input", &error);
-            return Ok(());
+            Ok(())
         }
-    };
-    if answer.number != 0 {
-        return archive_print::print_refused(out, answer.number);
     }
-    archive_print::print(out, &kinds, &offsets, &lengths, answer.count)
 }

@@ -6,68 +6,29 @@ mod places;
 
 use std::io;
 use std::io::Write;
+use zr_shell::Shell;
 use zr_shell::files::ARGUMENT_BYTES;
-use zr_shell::{files, said};
 
-// `Convert` is map, or unmap where it is so.
-#[derive(Clone, Copy)]
-enum Command {
-    Code,
-    Read,
-    Edit,
-    Convert(bool),
-    Runs,
-    Pack,
-    List,
-    Unknown,
-}
-
-// The command that a word names, where there are as many arguments as it takes.
-fn command_of(word: &[u8], arguments: usize) -> Command {
-    if check::same(word, b"code") && arguments == 7 {
-        return Command::Code;
-    }
-    if check::same(word, b"read") && arguments == 7 {
-        return Command::Read;
-    }
-    if check::same(word, b"edit") && arguments == 8 {
-        return Command::Edit;
-    }
-    if check::same(word, b"map") && arguments == 7 {
-        return Command::Convert(false);
-    }
-    if check::same(word, b"unmap") && arguments == 7 {
-        return Command::Convert(true);
-    }
-    if check::same(word, b"runs") && arguments == 3 {
-        return Command::Runs;
-    }
-    if check::same(word, b"pack") && 5 <= arguments && arguments % 2 == 1 {
-        return Command::Pack;
-    }
-    if check::same(word, b"list") && arguments == 3 {
-        return Command::List;
-    }
-    Command::Unknown
-}
-
-fn answer_to<W: Write>(out: &mut W, rt: &HostRuntime) -> io::Result<()> {
-    let mut word = [0u8; ARGUMENT_BYTES];
-    let k = files::argument(rt, 1, &mut word);
-    let command = command_of(&word[..k], files::argument_count(rt));
-    match command {
-        Command::Code => captures::code(out, rt),
-        Command::Read => captures::read(out, rt),
-        Command::Edit => captures::edit(out, rt),
-        Command::Convert(unmapping) => places::convert(out, rt, unmapping),
-        Command::Runs => places::runs(out, rt),
-        Command::Pack => zr_archive::pack(out, rt),
-        Command::List => zr_archive::list(out, rt),
-        Command::Unknown => said::unknown(out),
+// The command that the first word names, where there are as many arguments as it takes.
+fn answer_to<W: Write>(shell: &mut Shell<W>) -> io::Result<()> {
+    let mut space = [0u8; ARGUMENT_BYTES];
+    let word = shell.argument(1, &mut space);
+    match (word, shell.argument_count()) {
+        (b"code", 7) => captures::code(shell),
+        (b"read", 7) => captures::read(shell),
+        (b"edit", 8) => captures::edit(shell),
+        (b"map", 7) => places::map(shell),
+        (b"unmap", 7) => places::unmap(shell),
+        (b"runs", 3) => places::runs(shell),
+        (b"pack", n) if 5 <= n && n % 2 == 1 => zr_archive::pack(shell),
+        (b"list", 3) => zr_archive::list(shell),
+        _ => shell.unknown(),
     }
 }
 
 fn main(rt: HostRuntime) -> io::Result<()> {
-    let mut out = io::writer(&rt);
-    answer_to(&mut out, &rt)
+    answer_to(&mut Shell {
+        out: io::writer(&rt),
+        rt: &rt,
+    })
 }

@@ -1,112 +1,107 @@
 // The commands on GMP places.
-use answer::Answer;
+ghost use Rattle.std.specs.Prelude.{◌≡◌};
+
+use answer::{Refusal, Refused};
 use std::io;
 use std::io::Write;
-use zr_argument::Number;
-use zr_shell::{files, said};
+use zr_shell::Shell;
 
 // zr map C F N GROUPS WINDOW
+pub fn map<W: Write>(shell: &mut Shell<W>) -> io::Result<()> {
+    convert(shell, map_groups)
+}
+
 // zr unmap C F N WINDOW GROUPS
-pub fn convert<W: Write>(out: &mut W, rt: &HostRuntime, unmapping: bool) -> io::Result<()> {
-    let Number::Is(c) = files::number_at(out, rt, 2, b"C")? else {
+pub fn unmap<W: Write>(shell: &mut Shell<W>) -> io::Result<()> {
+    convert(shell, unmap_window)
+}
+
+// What both take: three numbers and a file. The step makes the other file of it.
+fn convert<W: Write, F: FnOnce(&mut Shell<W>, u64, u64, u64, &[u8]) -> io::Result<()>>(
+    shell: &mut Shell<W>,
+    step: F,
+) -> io::Result<()>
+    requires { F.IsAlwaysCallable step }
+{
+    let Some(c) = shell.number_at(2, b"C")? else {
         return Ok(());
     };
-    let Number::Is(f) = files::number_at(out, rt, 3, b"F")? else {
+    let Some(f) = shell.number_at(3, b"F")? else {
         return Ok(());
     };
-    let Number::Is(n) = files::number_at(out, rt, 4, b"N")? else {
+    let Some(n) = shell.number_at(4, b"N")? else {
         return Ok(());
     };
     let mut from = buffer_sizes::large_space();
-    let loaded = files::load(out, rt, 5, &mut from)?;
-    if !loaded.fine {
+    let Some(i) = shell.load(5, &mut from)? else {
         return Ok(());
-    }
-    let i = loaded.bytes;
-    convert_file(out, rt, unmapping, c, f, n, &from[0..i])
+    };
+    step(shell, c, f, n, &from[..i])
 }
 
-fn convert_file<W: Write>(
-    out: &mut W,
-    rt: &HostRuntime,
-    unmapping: bool,
-    c: u64,
-    f: u64,
-    n: u64,
-    from: &[u8],
-) -> io::Result<()> {
-    let mut to = buffer_sizes::large_space();
-    if unmapping {
-        let k = buffer_sizes::groups(c, f, n);
-        unmap(out, rt, c, f, n, from, &mut to[0..k])
-    } else {
-        let k = buffer_sizes::window(n);
-        map(out, rt, c, f, n, from, &mut to[0..k])
-    }
-}
-
-fn map<W: Write>(
-    out: &mut W,
-    rt: &HostRuntime,
+fn map_groups<W: Write>(
+    shell: &mut Shell<W>,
     c: u64,
     f: u64,
     n: u64,
     groups: &[u8],
-    window: &mut [u8],
 ) -> io::Result<()> {
-    let answer = gmp_map::map(c, f, n, groups, window);
-    if answer.number != 0 {
-        refused(out, answer, b",groups,window")?;
-        let k = buffer_sizes::groups(c, f, n);
-        said::length(out, rt, answer, b"GROUPS", 5, groups.len(), k)?;
-        return said::spare(out, rt, answer, b"GROUPS", 5);
+    let mut space = buffer_sizes::large_space();
+    let window = &mut space[..buffer_sizes::window(n)];
+    match gmp_map::map(c, f, n, groups, window) {
+        Ok(count) => save(shell, count, window),
+        Err(refused) => {
+            say_refused(shell, refused, &["groups", "window"])?;
+            let k = buffer_sizes::groups(c, f, n);
+            shell.length(refused, b"GROUPS", 5, groups.len(), k)?;
+            shell.spare(refused, b"GROUPS", 5)
+        }
     }
-    save(out, rt, answer.count, window)
 }
 
-fn unmap<W: Write>(
-    out: &mut W,
-    rt: &HostRuntime,
+fn unmap_window<W: Write>(
+    shell: &mut Shell<W>,
     c: u64,
     f: u64,
     n: u64,
     window: &[u8],
-    groups: &mut [u8],
 ) -> io::Result<()> {
-    let answer = gmp_map::unmap(c, f, n, window, groups);
-    if answer.number != 0 {
-        refused(out, answer, b",window,groups")?;
-        let k = buffer_sizes::window(n);
-        return said::length(out, rt, answer, b"WINDOW", 5, window.len(), k);
+    let mut space = buffer_sizes::large_space();
+    let groups = &mut space[..buffer_sizes::groups(c, f, n)];
+    match gmp_map::unmap(c, f, n, window, groups) {
+        Ok(count) => save(shell, count, groups),
+        Err(refused) => {
+            say_refused(shell, refused, &["window", "groups"])?;
+            let k = buffer_sizes::window(n);
+            shell.length(refused, b"WINDOW", 5, window.len(), k)
+        }
     }
-    save(out, rt, answer.count, groups)
 }
 
-fn save<W: Write>(out: &mut W, rt: &HostRuntime, count: u64, bytes: &[u8]) -> io::Result<()> {
-    if files::save(out, rt, 6, bytes)? {
-        said::done(out, count, b" group", b"\n")?;
+fn save<W: Write>(shell: &mut Shell<W>, count: u64, bytes: &[u8]) -> io::Result<()> {
+    if shell.save(6, bytes)? {
+        shell.done(count, b" group", b"\n")?;
     }
     Ok(())
 }
 
-fn refused<W: Write>(out: &mut W, answer: Answer, names: &[u8]) -> io::Result<()> {
-    said::refused(out, answer, names)?;
-    said::sets(
-        out,
-        answer,
+fn say_refused<W: Write>(shell: &mut Shell<W>, refused: Refused, names: &[&str]) -> io::Result<()> {
+    shell.refused(refused, names)?;
+    shell.sets(
+        refused,
         b"  C is 0 to 10220, F odd and 1 to 10219, N even and at least 2, and the window ends at or before place 10220\n",
     )
 }
 
 // zr runs C
-pub fn runs<W: Write>(out: &mut W, rt: &HostRuntime) -> io::Result<()> {
-    let Number::Is(c) = files::number_at(out, rt, 2, b"C")? else {
+pub fn runs<W: Write>(shell: &mut Shell<W>) -> io::Result<()> {
+    let Some(c) = shell.number_at(2, b"C")? else {
         return Ok(());
     };
     if sizes::PLACES < c {
-        let answer = answer::refuse(answer::OUTSIDE_SET, 0);
-        said::refused(out, answer, b"")?;
-        return said::sets(out, answer, b"  C is 0 to 10220\n");
+        let refused = Refusal::OutsideSet.at(0);
+        shell.refused(refused, &[])?;
+        return shell.sets(refused, b"  C is 0 to 10220\n");
     }
-    gmp_print::print(out, c)
+    gmp_print::print(&mut shell.out, c)
 }

@@ -1,96 +1,105 @@
 // The files and numbers that the arguments name. What goes wrong with one is said here, once.
-ghost use Rattle.std.specs.Prelude.{◌≡◌, ◌≤◌, length, IfOk, OnErr};
+ghost use Rattle.std.specs.Prelude.{◌≡◌, ◌≤◌, length, IfOk, IfSome, OnErr};
 
-use crate::said;
+use crate::{Shell, said};
 use std::env::{Env, FillError};
 use std::fs::File;
 use std::io;
 use std::io::{ErrorKind, Read, Write};
-use zr_argument::Number;
 
 // The bytes of the longest argument that is looked at. No path is longer.
 pub const ARGUMENT_BYTES: usize = 4096;
 
-// Whether a file could be read, and how many of its bytes are in the space that was lent.
-#[derive(Clone, Copy)]
-pub struct Loaded {
-    pub fine: bool,
-    pub bytes: usize,
-}
-
-// Puts argument i at the start of `space` and answers its length, or 0 where it is missing or longer. An argument is bytes, and need not be text.
-pub fn argument(rt: &HostRuntime, i: usize, space: &mut [u8]) -> usize
-    ensures { result ≤ length space.new }
-{
-    match rt.arg(i, space) {
-        Ok(k) => k,
-        Err(_) => 0,
-    }
-}
-
-// How many arguments the program was started with, its own name among them.
-pub fn argument_count(rt: &HostRuntime) -> usize {
-    let mut space = [0u8; ARGUMENT_BYTES];
-    for i in 0..usize::MAX {
-        if let Err(FillError::NotPresent) = rt.arg(i, &mut space) {
-            return i;
+impl<W: Write> Shell<'_, W> {
+    // Argument i, put into the space that is lent, and empty where it is missing or longer. An argument is bytes, and need not be text.
+    pub fn argument<'s>(&self, i: usize, space: &'s mut [u8]) -> &'s [u8] {
+        match self.rt.arg(i, space) {
+            Ok(k) => &space[..k],
+            Err(_) => &[],
         }
     }
-    usize::MAX
-}
 
-// The number that argument i is.
-pub fn number_at<W: Write>(
-    out: &mut W,
-    rt: &HostRuntime,
-    i: usize,
-    name: &[u8],
-) -> io::Result<Number> {
-    let mut word = [0u8; ARGUMENT_BYTES];
-    let k = argument(rt, i, &mut word);
-    let read = zr_argument::number_of(&word[..k]);
-    if let Number::Not = read {
-        said::failed(out, name, b" must be a whole number in decimal, and is ")?;
-        said::rest(out, &word[..k])?;
-    }
-    Ok(read)
-}
-
-// Standard error has the system's reason.
-fn failed<W: Write>(
-    out: &mut W,
-    rt: &HostRuntime,
-    path: &[u8],
-    why: &[u8],
-    error: io::Error,
-) -> io::Result<()> {
-    said::reason(rt, path, &error);
-    said::failed(out, path, why)
-}
-
-// Reads the file that argument i names, to its end or until `into` is full.
-pub fn load<W: Write>(
-    out: &mut W,
-    rt: &HostRuntime,
-    i: usize,
-    into: &mut [u8],
-) -> io::Result<Loaded>
-    ensures ok { IfOk result (λ r. r.bytes ≤ length into.new) }
-    ensures err { OnErr result (length into.new ≡ length into.old) }
-{
-    let mut path = [0u8; ARGUMENT_BYTES];
-    let k = argument(rt, i, &mut path);
-    load_from(out, rt, &path[..k], into)
-}
-
-// Opens a file for reading, or says that it cannot be opened and answers nothing.
-pub fn open<W: Write>(out: &mut W, rt: &HostRuntime, path: &[u8]) -> io::Result<Option<File>> {
-    match open_read(rt, path) {
-        Ok(file) => Ok(Some(file)),
-        Err(error) => {
-            failed(out, rt, path, b" cannot be opened\n", error)?;
-            Ok(None)
+    // How many arguments the program was started with, its own name among them.
+    pub fn argument_count(&self) -> usize {
+        let mut space = [0u8; ARGUMENT_BYTES];
+        for i in 0..usize::MAX {
+            if let Err(FillError::NotPresent) = self.rt.arg(i, &mut space) {
+                return i;
+            }
         }
+        usize::MAX
+    }
+
+    // The number that argument i is.
+    pub fn number_at(&mut self, i: usize, name: &[u8]) -> io::Result<Option<u64>> {
+        let mut space = [0u8; ARGUMENT_BYTES];
+        let word = self.argument(i, &mut space);
+        let number = zr_argument::number_of(word);
+        if number.is_none() {
+            self.failed(name, b" must be a whole number in decimal, and is ")?;
+            self.rest(word)?;
+        }
+        Ok(number)
+    }
+
+    // Reads the file that argument i names, to its end or until `into` is full, and answers how many of its bytes are there.
+    pub fn load(&mut self, i: usize, into: &mut [u8]) -> io::Result<Option<usize>>
+        ensures ok { IfOk result (λ r. IfSome r (λ n. n ≤ length into.new)) }
+        ensures err { OnErr result (length into.new ≡ length into.old) }
+    {
+        let mut space = [0u8; ARGUMENT_BYTES];
+        let path = self.argument(i, &mut space);
+        let Some(mut file) = self.open(path)? else {
+            return Ok(None);
+        };
+        match read_all(&mut file, into) {
+            Ok(bytes) => Ok(Some(bytes)),
+            Err(error) => {
+                self.unread(path, error)?;
+                Ok(None)
+            }
+        }
+    }
+
+    // Opens a file for reading, or says that it cannot be opened and answers nothing.
+    pub fn open(&mut self, path: &[u8]) -> io::Result<Option<File>> {
+        match open_read(self.rt, path) {
+            Ok(file) => Ok(Some(file)),
+            Err(error) => {
+                self.failed_for(path, b" cannot be opened\n", error)?;
+                Ok(None)
+            }
+        }
+    }
+
+    pub fn unread(&mut self, path: &[u8], error: io::Error) -> io::Result<()> {
+        self.failed_for(path, b" cannot be read\n", error)
+    }
+
+    // Writes bytes to the file that argument i names, over what was there.
+    pub fn save(&mut self, i: usize, bytes: &[u8]) -> io::Result<bool> {
+        let mut space = [0u8; ARGUMENT_BYTES];
+        let path = self.argument(i, &mut space);
+        let mut file = match open_overwrite(self.rt, path) {
+            Ok(file) => file,
+            Err(error) => {
+                self.failed_for(path, b" cannot be opened for writing\n", error)?;
+                return Ok(false);
+            }
+        };
+        match file.write_all(bytes) {
+            Ok(()) => Ok(true),
+            Err(error) => {
+                self.failed_for(path, b" cannot be written, and is not whole\n", error)?;
+                Ok(false)
+            }
+        }
+    }
+
+    // Standard error has the system's reason.
+    fn failed_for(&mut self, path: &[u8], why: &[u8], error: io::Error) -> io::Result<()> {
+        said::reason(self.rt, path, &error);
+        self.failed(path, why)
     }
 }
 
@@ -98,48 +107,13 @@ fn open_read(rt: &HostRuntime, path: &[u8]) -> io::Result<File> {
     File::open(rt, name_of(path)?)
 }
 
+fn open_overwrite(rt: &HostRuntime, path: &[u8]) -> io::Result<File> {
+    File::create(rt, name_of(path)?)
+}
+
 // The library's paths are text, so that a file whose name is none cannot be reached by it.
 fn name_of(path: &[u8]) -> io::Result<&str> {
-    match std::str::from_utf8(path) {
-        Ok(name) => Ok(name),
-        Err(_) => Err(io::Error::from(ErrorKind::InvalidFilename)),
-    }
-}
-
-fn load_from<W: Write>(
-    out: &mut W,
-    rt: &HostRuntime,
-    path: &[u8],
-    into: &mut [u8],
-) -> io::Result<Loaded>
-    ensures ok { IfOk result (λ r. r.bytes ≤ length into.new) }
-    ensures err { OnErr result (length into.new ≡ length into.old) }
-{
-    let Some(mut file) = open(out, rt, path)? else {
-        return Ok(Loaded {
-            fine: false,
-            bytes: 0,
-        });
-    };
-    match read_all(&mut file, into) {
-        Ok(bytes) => Ok(Loaded { fine: true, bytes }),
-        Err(error) => {
-            unread(out, rt, path, error)?;
-            Ok(Loaded {
-                fine: false,
-                bytes: 0,
-            })
-        }
-    }
-}
-
-pub fn unread<W: Write>(
-    out: &mut W,
-    rt: &HostRuntime,
-    path: &[u8],
-    error: io::Error,
-) -> io::Result<()> {
-    failed(out, rt, path, b" cannot be read\n", error)
+    std::str::from_utf8(path).map_err(|_| io::Error::from(ErrorKind::InvalidFilename))
 }
 
 // A read that moves nothing ends the file.
@@ -156,38 +130,4 @@ fn read_all<R: Read>(from: &mut R, into: &mut [u8]) -> io::Result<usize>
         done += more;
     }
     Ok(done)
-}
-
-// Writes bytes to the file that argument i names, over what was there.
-pub fn save<W: Write>(out: &mut W, rt: &HostRuntime, i: usize, bytes: &[u8]) -> io::Result<bool> {
-    let mut path = [0u8; ARGUMENT_BYTES];
-    let k = argument(rt, i, &mut path);
-    save_to(out, rt, &path[..k], bytes)
-}
-
-fn save_to<W: Write>(out: &mut W, rt: &HostRuntime, path: &[u8], bytes: &[u8]) -> io::Result<bool> {
-    let mut file = match open_overwrite(rt, path) {
-        Ok(file) => file,
-        Err(error) => {
-            failed(out, rt, path, b" cannot be opened for writing\n", error)?;
-            return Ok(false);
-        }
-    };
-    match file.write_all(bytes) {
-        Ok(()) => Ok(true),
-        Err(error) => {
-            failed(
-                out,
-                rt,
-                path,
-                b" cannot be written, and is not whole\n",
-                error,
-            )?;
-            Ok(false)
-        }
-    }
-}
-
-fn open_overwrite(rt: &HostRuntime, path: &[u8]) -> io::Result<File> {
-    File::create(rt, name_of(path)?)
 }

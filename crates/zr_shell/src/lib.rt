@@ -4,3 +4,9 @@
 
 pub mod files;
 pub mod said;
+
+// Where the answer goes, and where the arguments and the files come from.
+pub struct Shell<'a, W> {
+    pub out: W,
+    pub rt: &'a HostRuntime,
+}
