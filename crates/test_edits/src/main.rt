@@ -3,6 +3,9 @@
 // What holds a large space is not inlined, or the spaces of several calls would stand on the stack at once.
 #![tactic(auto)]
 
+ghost use Rattle.std.specs.Prelude.{◌≡◌, length};
+ghost use Rattle.buffer_sizes.specs.Lengths.{large_bytes};
+
 use std::io::{self, Write};
 use test_data::Generator;
 
@@ -111,20 +114,32 @@ impl Call {
         }
     }
 
-    // Edits the capture and writes what came. Whether it was granted.
-    fn edit<W: Write>(self, out: &mut W, capture: &mut [u8]) -> io::Result<bool> {
-        let bits = client_of(self.block, self.spare);
-        let new = parity_of(self.block);
-        let mut words = list_of();
-        let client = &bits[..self.client.min(sizes::BLOCK_BYTES)];
-        let parity = &new[..self.parity.min(sizes::PARITY_BYTES)];
-        let list = &mut words[..self.list.min(LONG_LIST)];
+    // Edits the capture by what these buffers hold and writes what came. Whether it was granted.
+    fn edit_by<W: Write>(
+        self,
+        out: &mut W,
+        client: &[u8],
+        parity: &[u8],
+        capture: &mut [u8],
+        list: &mut [u64],
+    ) -> io::Result<bool> {
         let r = capture::edit(self.n, self.block, client, parity, capture, list);
         test_print::outcome(out, ": ", r)?;
         let capture = test_data::digest(capture);
         let list = test_data::digest(list);
         writeln!(out, " capture {capture:016x} list {list:016x}")?;
         Ok(r.is_ok())
+    }
+
+    // The same by what is made for the block.
+    fn edit<W: Write>(self, out: &mut W, capture: &mut [u8]) -> io::Result<bool> {
+        let client = client_of(self.block, self.spare);
+        let parity = parity_of(self.block);
+        let mut list = list_of();
+        let i = self.client.min(sizes::BLOCK_BYTES);
+        let j = self.parity.min(sizes::PARITY_BYTES);
+        let k = self.list.min(LONG_LIST);
+        self.edit_by(out, &client[..i], &parity[..j], capture, &mut list[..k])
     }
 }
 
@@ -134,13 +149,25 @@ fn yes_or_no(truth: bool) -> &'static str {
 
 // ---- what a granted edit leaves
 
+fn codes_to(n: u64, block: u64, capture: &[u8], other: &mut [u8]) -> bool {
+    code(n, Some(block), other);
+    capture == other
+}
+
 // Whether the capture is what coding afresh gives.
 #[inline(never)]
 fn is_afresh(n: u64, block: u64, capture: &[u8]) -> bool {
     let mut other = buffer_sizes::large_space();
     let k = buffer_sizes::capture(n);
-    code(n, Some(block), &mut other[..k]);
-    capture == &other[..k]
+    codes_to(n, block, capture, &mut other[..k])
+}
+
+fn fills(n: u64, room: &[u8], info: &[u8], parity: &[u8]) -> bool
+    requires { large_bytes ≡ length room.now }
+{
+    let a = buffer_sizes::information(n);
+    let b = a + buffer_sizes::parity(n);
+    info == &room[..a] && parity == &room[a..b]
 }
 
 // Whether that is what coding afresh takes.
@@ -148,9 +175,12 @@ fn is_afresh(n: u64, block: u64, capture: &[u8]) -> bool {
 fn is_input(n: u64, block: u64, info: &[u8], parity: &[u8]) -> bool {
     let mut room = buffer_sizes::large_space();
     fill_input(n, Some(block), &mut room);
-    let a = buffer_sizes::information(n);
-    let b = a + buffer_sizes::parity(n);
-    info == &room[..a] && parity == &room[a..b]
+    fills(n, &room, info, parity)
+}
+
+fn reads_into(n: u64, block: u64, capture: &[u8], info: &mut [u8], parity: &mut [u8]) -> bool {
+    let r = capture::read(n, test_input::first_number(n), capture, info, parity);
+    r == Ok(0) && is_input(n, block, info, parity)
 }
 
 // Whether the capture reads back to that, with nothing to repair.
@@ -158,10 +188,9 @@ fn is_input(n: u64, block: u64, info: &[u8], parity: &[u8]) -> bool {
 fn reads_back(n: u64, block: u64, capture: &[u8]) -> bool {
     let mut info = buffer_sizes::large_space();
     let mut parity = buffer_sizes::small_space();
-    let info = &mut info[..buffer_sizes::information(n)];
-    let parity = &mut parity[..buffer_sizes::parity(n)];
-    let r = capture::read(n, test_input::first_number(n), capture, info, parity);
-    r == Ok(0) && is_input(n, block, info, parity)
+    let a = buffer_sizes::information(n);
+    let b = buffer_sizes::parity(n);
+    reads_into(n, block, capture, &mut info[..a], &mut parity[..b])
 }
 
 fn compare<W: Write>(out: &mut W, n: u64, block: u64, capture: &[u8]) -> io::Result<()> {
@@ -175,16 +204,25 @@ fn compare<W: Write>(out: &mut W, n: u64, block: u64, capture: &[u8]) -> io::Res
 
 // ---- edits of a capture as it was coded
 
-// Edits a capture that has as many super frames as `frames` says. A granted edit is compared with coding afresh and read back.
-#[inline(never)]
-fn edited<W: Write>(out: &mut W, frames: u64, call: Call) -> io::Result<()> {
-    let mut space = buffer_sizes::large_space();
-    let capture = &mut space[..buffer_sizes::capture(frames)];
+fn edit_coded<W: Write>(
+    out: &mut W,
+    frames: u64,
+    call: Call,
+    capture: &mut [u8],
+) -> io::Result<()> {
     code(frames, None, capture);
     if call.edit(out, capture)? {
         compare(out, frames, call.block, capture)?;
     }
     Ok(())
+}
+
+// Edits a capture that has as many super frames as `frames` says. A granted edit is compared with coding afresh and read back.
+#[inline(never)]
+fn edited<W: Write>(out: &mut W, frames: u64, call: Call) -> io::Result<()> {
+    let mut capture = buffer_sizes::large_space();
+    let k = buffer_sizes::capture(frames);
+    edit_coded(out, frames, call, &mut capture[..k])
 }
 
 // All is as stated, but for the numbers.
@@ -197,12 +235,16 @@ fn grant<W: Write>(out: &mut W, n: u64, block: u64) -> io::Result<()> {
     numbered(out, n, n, block)
 }
 
-#[inline(never)]
-fn say_coded<W: Write>(out: &mut W, n: u64) -> io::Result<()> {
-    let mut space = buffer_sizes::large_space();
-    let capture = &mut space[..buffer_sizes::capture(n)];
+fn say_coded_in<W: Write>(out: &mut W, n: u64, capture: &mut [u8]) -> io::Result<()> {
     code(n, None, capture);
     writeln!(out, "N {n} coded: {:016x}", test_data::digest(capture))
+}
+
+#[inline(never)]
+fn say_coded<W: Write>(out: &mut W, n: u64) -> io::Result<()> {
+    let mut capture = buffer_sizes::large_space();
+    let k = buffer_sizes::capture(n);
+    say_coded_in(out, n, &mut capture[..k])
 }
 
 // The capture as it was coded, and the first block past its end.
@@ -226,11 +268,12 @@ fn flip(flips: &[(usize, usize)], capture: &mut [u8]) {
     }
 }
 
-// Edits where bits are wrong. A granted edit keeps them so: flipped back, the capture is that of the edit without them, if so it says.
-#[inline(never)]
-fn flipped<W: Write>(out: &mut W, flips: &[(usize, usize)], spare: u8) -> io::Result<Option<bool>> {
-    let mut space = buffer_sizes::large_space();
-    let capture = &mut space[..ONE_BYTES];
+fn flipped_in<W: Write>(
+    out: &mut W,
+    flips: &[(usize, usize)],
+    spare: u8,
+    capture: &mut [u8],
+) -> io::Result<Option<bool>> {
     code(1, None, capture);
     flip(flips, capture);
     let call = Call {
@@ -242,6 +285,17 @@ fn flipped<W: Write>(out: &mut W, flips: &[(usize, usize)], spare: u8) -> io::Re
     }
     flip(flips, capture);
     Ok(Some(is_afresh(1, 6, capture)))
+}
+
+// Edits where bits are wrong. A granted edit keeps them so: flipped back, the capture is that of the edit without them, if so it says.
+#[inline(never)]
+fn flipped<W: Write>(
+    out: &mut W,
+    flips: &[(usize, usize)],
+    spare: u8,
+) -> io::Result<Option<bool>> {
+    let mut capture = buffer_sizes::large_space();
+    flipped_in(out, flips, spare, &mut capture[..ONE_BYTES])
 }
 
 // Two bits of word w are wrong, which is not listed.
@@ -336,22 +390,22 @@ fn fill_words(seed: u64, capture: &mut [u8]) {
     }
 }
 
-// Valid words that no input was coded to. The same edit once more changes nothing.
-#[inline(never)]
-fn never_coded<W: Write>(out: &mut W, block: u64) -> io::Result<()> {
-    let mut space = buffer_sizes::large_space();
-    let capture = &mut space[..ONE_BYTES];
+fn edit_twice<W: Write>(out: &mut W, block: u64, capture: &mut [u8]) -> io::Result<()> {
     fill_words(400 + block % 100000, capture);
     let before = test_data::digest(capture);
-    writeln!(
-        out,
-        "never coded block {block} before: capture {before:016x}"
-    )?;
+    writeln!(out, "never coded block {block} before: capture {before:016x}")?;
     write!(out, "never coded block {block}")?;
     Call::stated(1, block).edit(out, capture)?;
     write!(out, "never coded block {block} again")?;
     Call::stated(1, block).edit(out, capture)?;
     Ok(())
+}
+
+// Valid words that no input was coded to. The same edit once more changes nothing.
+#[inline(never)]
+fn never_coded<W: Write>(out: &mut W, block: u64) -> io::Result<()> {
+    let mut capture = buffer_sizes::large_space();
+    edit_twice(out, block, &mut capture[..ONE_BYTES])
 }
 
 // ---- all of them
