@@ -1,78 +1,30 @@
-// Heads read, cut off, changed, and refused by each number. Each group of cases is a function from its number in the group; the order is that of
-// second/README.md.
-ghost use Rattle.std.specs.Prelude.{◌≤◌};
-
-use crate::{cases, files};
-use answer::Answer;
+// Heads read, cut off, changed, and refused by each number. Each group of cases is a function; the order is that of second/README.md.
+use crate::cases::{LARGE, READS, SIZES, SOME, Size};
+use crate::files::{self, Swap};
 use std::io::{self, Write};
 
-// A case: a head of so many entries, one length of which is replaced; the file's size; two bytes that are set, with their values (999 is none); with how many
-// bytes it is handed in, 1 being right, and how many numbers the lists have.
-type Reading = [u64; 12];
-
-const ENTRIES: usize = 0;
-
-const LENGTH: usize = 1;
-
-const SIZE: usize = 3;
-
-const BYTE: usize = 4;
-
-const FIRST: usize = 8;
-
-const KINDS: usize = 9;
-
-const OFFSETS: usize = 10;
-
-const LENGTHS: usize = 11;
-
-// A file as it was written, with one length replaced.
-fn with_length(n: u64, f: u64, w: u64) -> Reading {
-    let size = files::offset(n, f, w, n);
-    [n, f, w, size, 999, 0, 999, 0, 1, 32, 32, 32]
+// A case: a head of so many entries, one length of which is replaced; the file's size; two bytes that are set, with their values; with how many bytes it is
+// handed in, 1 being right, and how many numbers the lists have.
+#[derive(Clone, Copy)]
+struct Reading {
+    entries: u64,
+    length: Swap,
+    size: u64,
+    byte: Swap,
+    second: Swap,
+    first: u64,
+    kinds: usize,
+    offsets: usize,
+    lengths: usize,
 }
 
-fn right(n: u64) -> Reading {
-    with_length(n, 99, 0)
-}
+// Which number of which list; the numbers of a list are 33 at the most.
+type List = [u64; 33];
 
-fn changed(n: u64, p: u64, x: u64) -> Reading {
-    let mut c = right(n);
-    c[BYTE] = p;
-    c[BYTE + 1] = x;
-    c
-}
-
-// So many first bytes are handed in.
-fn first_bytes(size: u64, a: u64) -> usize
-    ensures { result ≤ 400 }
-{
-    if 306 < size {
-        return shifted(306, a);
-    }
-    shifted(size, a)
-}
-
-fn shifted(right: u64, a: u64) -> usize
-    requires { right ≤ 306 }
-    ensures { result ≤ 400 }
-{
-    let more = right + a % 3;
-    if more < 1 {
-        return 0;
-    }
-    (more - 1) as usize
-}
-
-fn put(to: &mut [u64], at: usize, x: u64) {
-    if at < to.len() {
-        to[at] = x;
-    }
-}
-
-fn join(to: &mut [u64], at: usize, from: &[u64]) {
-    for i in 0..from.len() {
-        put(to, std::num::wrapping_add_usize(at, i), from[i]);
+// Sets a byte of the head, if one is set.
+fn set(bytes: &mut [u8], byte: Swap) {
+    if let Some((at, x)) = byte {
+        files::set(bytes, at, x);
     }
 }
 
@@ -84,16 +36,11 @@ fn print_lists<W: Write>(
     lengths: &[u64],
 ) -> io::Result<()> {
     let mut all = [0u64; 99];
-    let a = kinds.len();
-    let b = std::num::wrapping_add_usize(a, offsets.len());
-    let c = std::num::wrapping_add_usize(b, lengths.len());
-    join(&mut all, 0, kinds);
-    join(&mut all, a, offsets);
-    join(&mut all, b, lengths);
-    if c <= 99 {
-        test_print::hex(out, b" lists ", test_data::digest_numbers(&all[0..c]))?;
+    for (to, from) in all.iter_mut().zip(kinds.iter().chain(offsets).chain(lengths)) {
+        *to = *from;
     }
-    test_print::end(out)
+    let long = kinds.len().wrapping_add(offsets.len()).wrapping_add(lengths.len());
+    writeln!(out, " lists {:016x}", test_data::digest(&all[..long.min(99)]))
 }
 
 fn call<W: Write>(
@@ -104,199 +51,256 @@ fn call<W: Write>(
     offsets: &mut [u64],
     lengths: &mut [u64],
 ) -> io::Result<()> {
-    let answer: Answer = archive::read(size, first, kinds, offsets, lengths);
-    test_print::outcome(out, b" ", answer)?;
+    test_print::outcome(out, " ", archive::read(size, first, kinds, offsets, lengths))?;
     print_lists(out, kinds, offsets, lengths)
 }
 
-fn call_with<W: Write>(
-    out: &mut W,
-    size: u64,
-    first: &[u8],
-    k: u64,
-    o: u64,
-    l: u64,
-) -> io::Result<()> {
-    let mut kinds = [7u64; 33];
-    let mut offsets = [7u64; 33];
-    let mut lengths = [7u64; 33];
-    let i = (k % 34) as usize;
-    let j = (o % 34) as usize;
-    let m = (l % 34) as usize;
-    call(
-        out,
-        size,
-        first,
-        &mut kinds[0..i],
-        &mut offsets[0..j],
-        &mut lengths[0..m],
-    )
+impl Reading {
+    // A file as it was written, with one length replaced.
+    fn with_length(n: u64, length: Swap) -> Reading {
+        Reading {
+            entries: n,
+            length,
+            size: files::offset(n, length, n),
+            byte: None,
+            second: None,
+            first: 1,
+            kinds: 32,
+            offsets: 32,
+            lengths: 32,
+        }
+    }
+
+    fn right(n: u64) -> Reading {
+        Reading::with_length(n, None)
+    }
+
+    // Byte p is x.
+    fn changed(n: u64, p: u64, x: u64) -> Reading {
+        Reading {
+            byte: Some((p, x)),
+            ..Reading::right(n)
+        }
+    }
+
+    // The case itself. A length that is not replaced is told as number 99 and 0, a byte that is not set as 999 and 0, and a third byte never is.
+    fn name<W: Write>(self, out: &mut W) -> io::Result<()> {
+        let (e, length) = self.length.unwrap_or((99, 0));
+        let (p, x) = self.byte.unwrap_or((999, 0));
+        let (q, y) = self.second.unwrap_or((999, 0));
+        write!(out, "read {} length {e} {length} size {}", self.entries, self.size)?;
+        write!(out, " set {p} {x} {q} {y} 999 0 first {}", self.first)?;
+        write!(out, " lists {} {} {}", self.kinds, self.offsets, self.lengths)
+    }
+
+    // So many first bytes are handed in.
+    fn first_bytes(self) -> usize {
+        let right = self.size.min(306) as usize;
+        (right + (self.first % 3) as usize).saturating_sub(1)
+    }
+
+    fn call<W: Write>(self, out: &mut W, first: &[u8]) -> io::Result<()> {
+        let mut kinds: List = [7; 33];
+        let mut offsets: List = [7; 33];
+        let mut lengths: List = [7; 33];
+        let i = self.kinds.min(33);
+        let j = self.offsets.min(33);
+        let k = self.lengths.min(33);
+        call(out, self.size, first, &mut kinds[..i], &mut offsets[..j], &mut lengths[..k])
+    }
+
+    fn run<W: Write>(self, out: &mut W) -> io::Result<()> {
+        self.name(out)?;
+        let mut bytes = [0u8; files::SPACE];
+        files::set_head(&mut bytes, self.entries, self.length);
+        set(&mut bytes, self.byte);
+        set(&mut bytes, self.second);
+        let long = self.first_bytes().min(files::SPACE);
+        self.call(out, &bytes[..long])
+    }
 }
 
-fn run<W: Write>(out: &mut W, c: Reading) -> io::Result<()> {
-    test_print::form(
-        out,
-        b"read # length # # size # set # # # # 999 0 first # lists # # #",
-        &c,
-    )?;
-    let mut bytes = [0u8; files::SPACE];
-    files::set_head(&mut bytes, c[ENTRIES], c[LENGTH], c[LENGTH + 1]);
-    files::set(&mut bytes, c[BYTE], c[BYTE + 1]);
-    files::set(&mut bytes, c[6], c[7]);
-    let long = first_bytes(c[SIZE], c[FIRST]);
-    call_with(
-        out,
-        c[SIZE],
-        &bytes[0..long],
-        c[KINDS],
-        c[OFFSETS],
-        c[LENGTHS],
-    )
+// ---- the groups
+
+fn chosen<W: Write>(out: &mut W) -> io::Result<()> {
+    for (entries, size, byte, second, first, kinds, offsets, lengths) in &READS {
+        let c = Reading {
+            entries: *entries,
+            length: None,
+            size: *size,
+            byte: *byte,
+            second: *second,
+            first: *first,
+            kinds: *kinds,
+            offsets: *offsets,
+            lengths: *lengths,
+        };
+        c.run(out)?;
+    }
+    Ok(())
 }
 
-// Every number of entries; then sizes on both sides of each edge.
-fn whole(k: u64) -> Reading {
-    if k < 34 {
-        return right(k);
+// Every number of entries.
+fn whole<W: Write>(out: &mut W) -> io::Result<()> {
+    for n in 0..34u64 {
+        Reading::right(n).run(out)?;
     }
-    let t = cases::SIZES;
-    let mut c = right(cases::some((k - 34) / 19));
-    c[SIZE] = size_of(c[SIZE], t[((k - 34) % 19) as usize]);
-    c
+    Ok(())
 }
 
-fn size_of(end: u64, size: u64) -> u64 {
-    if size < 2 || 4 < size {
-        return size;
+fn size_of(end: u64, size: Size) -> u64 {
+    match size {
+        Size::Bytes(bytes) => bytes,
+        Size::Short => end.wrapping_sub(1),
+        Size::Whole => end,
+        Size::Long => end.wrapping_add(1),
     }
-    std::num::wrapping_sub_u64(std::num::wrapping_add_u64(end, size), 3)
 }
 
-// Every entry of 1, of 2 and of 32, one behind the other: how many there are, and which it is.
-fn entries(m: u64) -> u64 {
-    if m < 1 {
-        return 1;
+// Sizes on both sides of each edge.
+fn sizes_of<W: Write>(out: &mut W, n: u64) -> io::Result<()> {
+    let right = Reading::right(n);
+    for size in &SIZES {
+        let c = Reading {
+            size: size_of(right.size, *size),
+            ..right
+        };
+        c.run(out)?;
     }
-    if m < 3 { 2 } else { 32 }
+    Ok(())
 }
 
-fn entry(m: u64) -> u64 {
-    if m < 1 {
-        return 0;
+fn sizes<W: Write>(out: &mut W) -> io::Result<()> {
+    for n in &SOME {
+        sizes_of(out, *n)?;
     }
-    if m < 3 { m - 1 } else { m - 3 }
+    Ok(())
 }
 
-// A byte set: each of the first sixteen; then the kind of every entry, three times; then each other byte of every entry.
-fn with_byte(k: u64) -> Reading {
-    if k < 16 {
-        return changed(2, k, 0);
+// Each of the first sixteen bytes.
+fn fixed<W: Write>(out: &mut W) -> io::Result<()> {
+    for p in 0..16u64 {
+        Reading::changed(2, p, 0).run(out)?;
     }
-    if k < 121 {
-        let m = (k - 16) / 3;
-        return changed(entries(m), 18 + 9 * (entry(m) % 100), kind(k - 16));
-    }
-    let m = (k - 121) / 8;
-    changed(entries(m), 19 + 9 * (entry(m) % 100) + (k - 121) % 8, 165)
+    Ok(())
 }
 
-fn kind(k: u64) -> u64 {
-    if k % 3 == 0 {
-        return 0;
+// The kind of an entry, three times.
+fn kind<W: Write>(out: &mut W, n: u64, e: u64) -> io::Result<()> {
+    let p = 18 + 9 * (e % 100);
+    for x in &[0, 4, 255] {
+        Reading::changed(n, p, *x).run(out)?;
     }
-    if k % 3 == 1 { 4 } else { 255 }
+    Ok(())
 }
 
-// Every size from 16 to 306; then from 18 on with a kind that is none in the entry that is cut off there.
-fn cut_off(k: u64) -> Reading {
-    let mut c = right(32);
-    if k < 291 {
-        c[SIZE] = 16 + k;
-        return c;
+fn kinds_of<W: Write>(out: &mut W, n: u64) -> io::Result<()> {
+    for e in 0..n {
+        kind(out, n, e)?;
     }
-    c[SIZE] = k - 273;
-    if k < 579 {
-        c[BYTE] = 18 + (k - 291) / 9 * 9;
-    }
-    c
+    Ok(())
 }
 
-fn chosen(k: usize) -> Reading {
-    let t = cases::READS;
-    let i = 12 * (k % 28);
-    [
-        t[i],
-        t[i + 1],
-        t[i + 2],
-        t[i + 3],
-        t[i + 4],
-        t[i + 5],
-        t[i + 6],
-        t[i + 7],
-        t[i + 8],
-        t[i + 9],
-        t[i + 10],
-        t[i + 11],
-    ]
+fn kinds<W: Write>(out: &mut W) -> io::Result<()> {
+    for n in &SOME {
+        kinds_of(out, *n)?;
+    }
+    Ok(())
+}
+
+// Each other byte of an entry.
+fn fields<W: Write>(out: &mut W, n: u64, e: u64) -> io::Result<()> {
+    let p = 19 + 9 * (e % 100);
+    for i in 0..8u64 {
+        Reading::changed(n, p + i, 165).run(out)?;
+    }
+    Ok(())
+}
+
+fn fields_of<W: Write>(out: &mut W, n: u64) -> io::Result<()> {
+    for e in 0..n {
+        fields(out, n, e)?;
+    }
+    Ok(())
+}
+
+fn all_fields<W: Write>(out: &mut W) -> io::Result<()> {
+    for n in &SOME {
+        fields_of(out, *n)?;
+    }
+    Ok(())
+}
+
+// Every size from 16 to 306.
+fn cut_off<W: Write>(out: &mut W) -> io::Result<()> {
+    let right = Reading::right(32);
+    for size in 16..307u64 {
+        Reading { size, ..right }.run(out)?;
+    }
+    Ok(())
+}
+
+// From 18 on with a kind that is none in the entry that is cut off there; at 306 none is.
+fn cut_off_changed<W: Write>(out: &mut W) -> io::Result<()> {
+    let right = Reading::right(32);
+    for size in 18..306u64 {
+        let byte = Some((18 + (size - 18) / 9 * 9, 0));
+        Reading { size, byte, ..right }.run(out)?;
+    }
+    Reading { size: 306, ..right }.run(out)
 }
 
 // The end of the last body, and sizes around and far from it.
-fn far(end: u64, k: usize) -> u64 {
-    match k {
-        0 => end,
-        1 => std::num::wrapping_sub_u64(end, 1),
-        2 => std::num::wrapping_add_u64(end, 1),
-        3 => if end < 4294967296 {
-            0
-        } else {
-            end - 4294967296
-        },
-        4 => std::num::wrapping_add_u64(end, 4294967296),
-        5 => std::num::wrapping_add_u64(end, 9223372036854775808),
-        6 => 18446744073709551614,
-        _ => 18446744073709551615,
+fn far<W: Write>(out: &mut W, n: u64, e: u64) -> io::Result<()> {
+    let right = Reading::with_length(n, Some((e, 4294967295)));
+    let end = right.size;
+    let sizes = [
+        end,
+        end.wrapping_sub(1),
+        end.wrapping_add(1),
+        end.saturating_sub(4294967296),
+        end.wrapping_add(4294967296),
+        end.wrapping_add(9223372036854775808),
+        u64::MAX - 1,
+        u64::MAX,
+    ];
+    for size in &sizes {
+        Reading { size: *size, ..right }.run(out)?;
     }
+    Ok(())
 }
 
-fn large(k: usize) -> Reading {
-    let t = cases::LARGE;
-    let i = 2 * (k / 8 % 5);
-    let mut c = with_length(t[i], t[i + 1], 4294967295);
-    c[SIZE] = far(c[SIZE], k % 8);
-    c
+fn large<W: Write>(out: &mut W) -> io::Result<()> {
+    for (n, e) in &LARGE {
+        far(out, *n, *e)?;
+    }
+    Ok(())
 }
 
-fn lengths(k: u64) -> Reading {
-    let mut c = right(2);
-    c[FIRST] = k / 27;
-    c[KINDS] = 31 + k / 9 % 3;
-    c[OFFSETS] = 31 + k / 3 % 3;
-    c[LENGTHS] = 31 + k % 3;
-    c
-}
-
-fn case(k: u64) -> Reading {
-    if k < 28 {
-        return chosen(k as usize);
+// Each of the four lengths is one too few, right, or one too many: the digits of k to base 3.
+fn lengths<W: Write>(out: &mut W) -> io::Result<()> {
+    for k in 0..81usize {
+        let c = Reading {
+            first: k as u64 / 27,
+            kinds: 31 + k / 9 % 3,
+            offsets: 31 + k / 3 % 3,
+            lengths: 31 + k % 3,
+            ..Reading::right(2)
+        };
+        c.run(out)?;
     }
-    if k < 119 {
-        return whole(k - 28);
-    }
-    if k < 520 {
-        return with_byte(k - 119);
-    }
-    if k < 1100 {
-        return cut_off(k - 520);
-    }
-    if k < 1140 {
-        return large((k - 1100) as usize);
-    }
-    lengths(k - 1140)
+    Ok(())
 }
 
 pub fn all<W: Write>(out: &mut W) -> io::Result<()> {
-    for k in 0..1221u64 {
-        run(out, case(k))?;
-    }
-    Ok(())
+    chosen(out)?;
+    whole(out)?;
+    sizes(out)?;
+    fixed(out)?;
+    kinds(out)?;
+    all_fields(out)?;
+    cut_off(out)?;
+    cut_off_changed(out)?;
+    large(out)?;
+    lengths(out)
 }

@@ -1,137 +1,144 @@
-// Heads written, and refused calls. Each group of cases is a function from its number in the group; the order is that of second/README.md.
-use crate::{cases, files};
-use answer::Answer;
+// Heads written, and refused calls. Each group of cases is a function; the order is that of second/README.md.
+use crate::cases::{KINDS, LENGTHS, SOME, WRITES};
+use crate::files::{self, Swap};
 use std::io::{self, Write};
 
-// A case: the count, how many kinds, lengths and bytes of the head there are, and which kind and which length is replaced by what; 99 is none.
-type Writing = [u64; 8];
-
-const KINDS: usize = 1;
-
-const LENGTHS: usize = 2;
-
-const HEAD: usize = 3;
-
-const KIND: usize = 4;
-
-const LENGTH: usize = 6;
-
-fn right(n: u64) -> Writing {
-    let m = n % 100;
-    [n, m, m, 18 + 9 * m, 99, 0, 99, 0]
+// A case: the count, how many kinds, lengths and bytes of the head there are, and which kind and which length is replaced by what.
+#[derive(Clone, Copy)]
+struct Writing {
+    count: u64,
+    kinds: usize,
+    lengths: usize,
+    head: usize,
+    kind: Swap,
+    length: Swap,
 }
 
-// The kinds, or the lengths, of which number e is v.
-fn set_numbers(lengths: bool, e: u64, v: u64, list: &mut [u64]) {
-    for i in 0..list.len() {
-        list[i] = files::number_of(lengths, i as u64, e, v);
+impl Writing {
+    fn right(n: u64) -> Writing {
+        let m = (n % 100) as usize;
+        Writing {
+            count: n,
+            kinds: m,
+            lengths: m,
+            head: 18 + 9 * m,
+            kind: None,
+            length: None,
+        }
+    }
+
+    // The case itself; a kind or a length that is not replaced is told as number 99 and 0.
+    fn name<W: Write>(self, out: &mut W) -> io::Result<()> {
+        let (e, kind) = self.kind.unwrap_or((99, 0));
+        let (f, length) = self.length.unwrap_or((99, 0));
+        write!(out, "write {} lists {} {}", self.count, self.kinds, self.lengths)?;
+        write!(out, " head {} kind {e} {kind} length {f} {length}", self.head)
+    }
+
+    fn call<W: Write>(
+        self,
+        out: &mut W,
+        kinds: &[u64],
+        lengths: &[u64],
+        head: &mut [u8],
+    ) -> io::Result<()> {
+        test_print::outcome(out, " ", archive::write(self.count, kinds, lengths, head))?;
+        writeln!(out, " head {:016x}", test_data::digest(head))
+    }
+
+    fn run<W: Write>(self, out: &mut W) -> io::Result<()> {
+        self.name(out)?;
+        let kinds: [u64; 40] = std::array::from_fn(|i| files::kind_of(i as u64, self.kind));
+        let lengths: [u64; 40] = std::array::from_fn(|i| files::length_of(i as u64, self.length));
+        let mut head = [90u8; files::SPACE];
+        let a = self.kinds.min(40);
+        let b = self.lengths.min(40);
+        let h = self.head.min(files::SPACE);
+        self.call(out, &kinds[..a], &lengths[..b], &mut head[..h])
     }
 }
 
-fn call<W: Write>(
-    out: &mut W,
-    n: u64,
-    kinds: &[u64],
-    lengths: &[u64],
-    head: &mut [u8],
-) -> io::Result<()> {
-    let answer: Answer = archive::write(n, kinds, lengths, head);
-    test_print::outcome(out, b" ", answer)?;
-    test_print::digest(out, b" head ", head)?;
-    test_print::end(out)
-}
-
-fn call_with<W: Write>(
-    out: &mut W,
-    n: u64,
-    kinds: &[u64],
-    lengths: &[u64],
-    bytes: u64,
-) -> io::Result<()> {
-    let h = (bytes % 401) as usize;
-    let mut head = [90u8; files::SPACE];
-    call(out, n, kinds, lengths, &mut head[0..h])
-}
-
-fn run<W: Write>(out: &mut W, c: Writing) -> io::Result<()> {
-    test_print::form(out, b"write # lists # # head # kind # # length # #", &c)?;
-    let a = (c[KINDS] % 41) as usize;
-    let b = (c[LENGTHS] % 41) as usize;
-    let mut kinds = [0u64; 40];
-    let mut lengths = [0u64; 40];
-    set_numbers(false, c[KIND], c[KIND + 1], &mut kinds);
-    set_numbers(true, c[LENGTH], c[LENGTH + 1], &mut lengths);
-    call_with(out, c[0], &kinds[0..a], &lengths[0..b], c[HEAD])
-}
-
-// The first entry and the last of n.
-fn end_entry(k: usize, n: u64) -> u64 {
-    if n < 1 {
-        return 0;
+fn chosen<W: Write>(out: &mut W) -> io::Result<()> {
+    for (count, kinds, lengths, head, kind, length) in &WRITES {
+        let c = Writing {
+            count: *count,
+            kinds: *kinds,
+            lengths: *lengths,
+            head: *head,
+            kind: *kind,
+            length: *length,
+        };
+        c.run(out)?;
     }
-    if k % 2 == 0 { 0 } else { n - 1 }
+    Ok(())
 }
 
-// A kind, then a length, at the edges of its field, in the first entry and in the last.
-fn kinds(k: usize) -> Writing {
-    let t = cases::KINDS;
-    let n = cases::some((k / 12) as u64);
-    let mut c = right(n);
-    c[KIND] = end_entry(k / 6, n);
-    c[KIND + 1] = t[k % 6];
-    c
-}
+// The number and an entry of a head: the first and the last of each.
+const ENDS: [(u64, u64); 6] = [(1, 0), (1, 0), (2, 0), (2, 1), (32, 0), (32, 31)];
 
-fn lengths(k: usize) -> Writing {
-    let t = cases::LENGTHS;
-    let n = cases::some((k / 8) as u64);
-    let mut c = right(n);
-    c[LENGTH] = end_entry(k / 4, n);
-    c[LENGTH + 1] = t[k % 4];
-    c
-}
-
-// Each of the three lengths is one too few, right, or one too many.
-fn longs(k: u64) -> Writing {
-    let n = cases::some(k / 27);
-    let mut c = right(n);
-    c[KINDS] = std::num::wrapping_sub_u64(n % 100 + k / 9 % 3, 1);
-    c[LENGTHS] = std::num::wrapping_sub_u64(n % 100 + k / 3 % 3, 1);
-    c[HEAD] = 17 + 9 * (n % 100) + k % 3;
-    c
-}
-
-fn chosen(k: usize) -> Writing {
-    let t = cases::WRITES;
-    let i = 8 * (k % 29);
-    [
-        t[i],
-        t[i + 1],
-        t[i + 2],
-        t[i + 3],
-        t[i + 4],
-        t[i + 5],
-        t[i + 6],
-        t[i + 7],
-    ]
-}
-
-fn case(k: usize) -> Writing {
-    if k < 29 {
-        return chosen(k);
+// A kind at the edges of its field.
+fn kinds_at<W: Write>(out: &mut W, n: u64, e: u64) -> io::Result<()> {
+    for kind in &KINDS {
+        let c = Writing {
+            kind: Some((e, *kind)),
+            ..Writing::right(n)
+        };
+        c.run(out)?;
     }
-    if k < 65 {
-        return kinds(k - 29);
+    Ok(())
+}
+
+fn kinds<W: Write>(out: &mut W) -> io::Result<()> {
+    for (n, e) in &ENDS {
+        kinds_at(out, *n, *e)?;
     }
-    if k < 89 {
-        return lengths(k - 65);
+    Ok(())
+}
+
+// A length at the edges of its field.
+fn lengths_at<W: Write>(out: &mut W, n: u64, e: u64) -> io::Result<()> {
+    for length in &LENGTHS {
+        let c = Writing {
+            length: Some((e, *length)),
+            ..Writing::right(n)
+        };
+        c.run(out)?;
     }
-    longs(k as u64 - 89)
+    Ok(())
+}
+
+fn lengths<W: Write>(out: &mut W) -> io::Result<()> {
+    for (n, e) in &ENDS {
+        lengths_at(out, *n, *e)?;
+    }
+    Ok(())
+}
+
+// Each of the three lengths is one too few, right, or one too many: the digits of k to base 3.
+fn longs_of<W: Write>(out: &mut W, n: u64) -> io::Result<()> {
+    let m = (n % 100) as usize;
+    for k in 0..27usize {
+        let c = Writing {
+            kinds: (m + k / 9).saturating_sub(1),
+            lengths: (m + k / 3 % 3).saturating_sub(1),
+            head: 17 + 9 * m + k % 3,
+            ..Writing::right(n)
+        };
+        c.run(out)?;
+    }
+    Ok(())
+}
+
+fn longs<W: Write>(out: &mut W) -> io::Result<()> {
+    for n in &SOME {
+        longs_of(out, *n)?;
+    }
+    Ok(())
 }
 
 pub fn all<W: Write>(out: &mut W) -> io::Result<()> {
-    for k in 0..170usize {
-        run(out, case(k))?;
-    }
-    Ok(())
+    chosen(out)?;
+    kinds(out)?;
+    lengths(out)?;
+    longs(out)
 }

@@ -3,17 +3,17 @@ ghost use Rattle.std.specs.Prelude.{◌≡◌, length};
 ghost use Rattle.buffer_sizes.specs.Lengths.{large_bytes};
 
 use crate::lent;
-use answer::Answer;
 use buffer_sizes::Large;
 use std::io::{self, Write};
+use test_data::Generator;
 
 // The capture of one super frame.
 const CAPTURE_BYTES: usize = sizes::SUPER_CAPTURE_BYTES + sizes::FILLER_BYTES;
 
-// A length is taken below these: a space, and no more, has room for it.
-const LENGTHS: usize = buffer_sizes::LARGE_BYTES + 1;
+// A length is cut to these: a space, and no more, has room for it.
+const LARGE: usize = buffer_sizes::LARGE_BYTES;
 
-const SMALL_LENGTHS: usize = buffer_sizes::SMALL_BYTES + 1;
+const SMALL: usize = buffer_sizes::SMALL_BYTES;
 
 // What is too long by one.
 const LONG_BLOCK: usize = sizes::BLOCK_BYTES + 1;
@@ -23,12 +23,8 @@ const LONG_PARITY: usize = sizes::PARITY_BYTES + 1;
 const LONG_LIST: usize = sizes::LIST_LENGTH + 1;
 
 // A call, and its N where that is outside its set.
-fn name<W: Write>(out: &mut W, call: &[u8], n: u64) -> io::Result<()> {
-    test_print::text(out, call)?;
-    if n == 0 {
-        test_print::text(out, b" of N 0")?;
-    }
-    Ok(())
+fn name<W: Write>(out: &mut W, call: &str, n: u64) -> io::Result<()> {
+    write!(out, "{call}{}", if n == 0 { " of N 0" } else { "" })
 }
 
 // ---- coding
@@ -41,16 +37,10 @@ fn code_into<W: Write>(
     capture: &mut [u8],
 ) -> io::Result<()> {
     test_input::fill(999, capture);
-    name(out, b"code", n)?;
-    test_print::form(
-        out,
-        b" # # #",
-        &[info.len() as u64, parity.len() as u64, capture.len() as u64],
-    )?;
-    let r: Answer = capture::code(n, 7, info, parity, capture);
-    test_print::outcome(out, b": ", r)?;
-    test_print::digest(out, b" capture ", capture)?;
-    test_print::end(out)
+    name(out, "code", n)?;
+    write!(out, " {} {} {}", info.len(), parity.len(), capture.len())?;
+    test_print::outcome(out, ": ", capture::code(n, 7, info, parity, capture))?;
+    writeln!(out, " capture {:016x}", test_data::digest(capture))
 }
 
 // The parity stands behind the information in one room, which has space for both.
@@ -58,13 +48,13 @@ fn code_from<W: Write>(out: &mut W, n: u64, p: u64, room: &[u8]) -> io::Result<(
     requires { large_bytes ≡ length room.now }
 {
     let mut capture = buffer_sizes::large_space();
-    let a = lent::length(sizes::SUPER_INFO_BYTES, p) % 1300000;
-    let b = a + lent::length(sizes::SUPER_PARITY_BYTES, p / 3) % 100000;
-    let k = lent::length(CAPTURE_BYTES, p / 9) % LENGTHS;
-    code_into(out, n, &room[0..a], &room[a..b], &mut capture[0..k])
+    let a = lent::length(sizes::SUPER_INFO_BYTES, p).min(1300000);
+    let b = a + lent::length(sizes::SUPER_PARITY_BYTES, p / 3).min(100000);
+    let k = lent::length(CAPTURE_BYTES, p / 9).min(LARGE);
+    code_into(out, n, &room[..a], &room[a..b], &mut capture[..k])
 }
 
-pub fn code<W: Write>(out: &mut W, n: u64, p: u64) -> io::Result<()> {
+fn code<W: Write>(out: &mut W, n: u64, p: u64) -> io::Result<()> {
     let mut room = buffer_sizes::large_space();
     test_input::fill(101, &mut room);
     code_from(out, n, p, &room)
@@ -81,32 +71,27 @@ fn read_into<W: Write>(
 ) -> io::Result<()> {
     test_input::fill(998, info);
     test_input::fill(997, parity);
-    name(out, b"read", n)?;
-    test_print::form(
-        out,
-        b" # # #",
-        &[capture.len() as u64, info.len() as u64, parity.len() as u64],
-    )?;
-    let r: Answer = capture::read(n, 7, capture, info, parity);
-    test_print::outcome(out, b": ", r)?;
-    test_print::inputs(out, test_data::digest(info), test_data::digest(parity))
+    name(out, "read", n)?;
+    write!(out, " {} {} {}", capture.len(), info.len(), parity.len())?;
+    test_print::outcome(out, ": ", capture::read(n, 7, capture, info, parity))?;
+    test_print::inputs(out, info, parity)
 }
 
 // The capture, and zeros behind it.
 fn coded() -> Large {
     let mut capture = buffer_sizes::large_space();
-    test_input::code(1, &mut capture[0..CAPTURE_BYTES]);
+    let _ = test_input::code(1, &mut capture[..CAPTURE_BYTES]);
     capture
 }
 
-pub fn read<W: Write>(out: &mut W, n: u64, p: u64) -> io::Result<()> {
-    let k = lent::length(CAPTURE_BYTES, p) % LENGTHS;
-    let a = lent::length(sizes::SUPER_INFO_BYTES, p / 3) % LENGTHS;
-    let b = lent::length(sizes::SUPER_PARITY_BYTES, p / 9) % SMALL_LENGTHS;
+fn read<W: Write>(out: &mut W, n: u64, p: u64) -> io::Result<()> {
+    let k = lent::length(CAPTURE_BYTES, p).min(LARGE);
+    let a = lent::length(sizes::SUPER_INFO_BYTES, p / 3).min(LARGE);
+    let b = lent::length(sizes::SUPER_PARITY_BYTES, p / 9).min(SMALL);
     let capture = coded();
     let mut info = buffer_sizes::large_space();
     let mut parity = buffer_sizes::small_space();
-    read_into(out, n, &capture[0..k], &mut info[0..a], &mut parity[0..b])
+    read_into(out, n, &capture[..k], &mut info[..a], &mut parity[..b])
 }
 
 // ---- editing
@@ -120,23 +105,15 @@ fn edit_into<W: Write>(
     capture: &mut [u8],
     list: &mut [u64],
 ) -> io::Result<()> {
-    name(out, b"edit", n)?;
-    lent::say_spare(out, spare)?;
-    test_print::form(
-        out,
-        b" # # # #",
-        &[
-            bits.len() as u64,
-            parity.len() as u64,
-            capture.len() as u64,
-            list.len() as u64,
-        ],
-    )?;
-    let r: Answer = capture::edit(n, 6, bits, parity, capture, list);
-    test_print::outcome(out, b": ", r)?;
-    test_print::digest(out, b" capture ", capture)?;
-    test_print::hex(out, b" list ", test_data::digest_numbers(list))?;
-    test_print::end(out)
+    name(out, "edit", n)?;
+    let said = lent::spare_said(spare);
+    write!(out, "{said} {} {}", bits.len(), parity.len())?;
+    write!(out, " {} {}", capture.len(), list.len())?;
+    let edited = capture::edit(n, 6, bits, parity, capture, list);
+    test_print::outcome(out, ": ", edited)?;
+    let capture = test_data::digest(capture);
+    let list = test_data::digest(list);
+    writeln!(out, " capture {capture:016x} list {list:016x}")
 }
 
 // The spare bits are the low seven of byte 32, which stand behind the 257.
@@ -155,15 +132,15 @@ fn block_parity() -> [u8; LONG_PARITY] {
 
 fn listed() -> [u64; LONG_LIST] {
     let mut list = [0u64; LONG_LIST];
-    test_data::fill_numbers(test_data::start(996), &mut list);
+    Generator::start(996).fill(&mut list);
     list
 }
 
-pub fn edit<W: Write>(out: &mut W, n: u64, spare: u8, p: u64) -> io::Result<()> {
-    let i = lent::length(sizes::BLOCK_BYTES, p) % (LONG_BLOCK + 1);
-    let j = lent::length(sizes::PARITY_BYTES, p / 3) % (LONG_PARITY + 1);
-    let k = lent::length(CAPTURE_BYTES, p / 9) % LENGTHS;
-    let l = lent::length(sizes::LIST_LENGTH, p / 27) % (LONG_LIST + 1);
+fn edit<W: Write>(out: &mut W, n: u64, spare: u8, p: u64) -> io::Result<()> {
+    let i = lent::length(sizes::BLOCK_BYTES, p).min(LONG_BLOCK);
+    let j = lent::length(sizes::PARITY_BYTES, p / 3).min(LONG_PARITY);
+    let k = lent::length(CAPTURE_BYTES, p / 9).min(LARGE);
+    let l = lent::length(sizes::LIST_LENGTH, p / 27).min(LONG_LIST);
     let bits = client(spare);
     let parity = block_parity();
     let mut capture = coded();
@@ -172,28 +149,56 @@ pub fn edit<W: Write>(out: &mut W, n: u64, spare: u8, p: u64) -> io::Result<()> 
         out,
         n,
         spare,
-        &bits[0..i],
-        &parity[0..j],
-        &mut capture[0..k],
-        &mut list[0..l],
+        &bits[..i],
+        &parity[..j],
+        &mut capture[..k],
+        &mut list[..l],
     )
 }
 
 // ---- a part
 
 fn part_of<W: Write>(out: &mut W, n: u64, info: &[u8]) -> io::Result<()> {
-    name(out, b"part", n)?;
-    test_print::number(out, b" ", info.len() as u64)?;
-    let r: Answer = capture::information_answer(n, 4, info);
+    name(out, "part", n)?;
+    write!(out, " {}", info.len())?;
     let part = capture::information(n, 4, info);
-    test_print::outcome(out, b": ", r)?;
-    test_print::number(out, b" bytes ", part.len() as u64)?;
-    test_print::end(out)
+    test_print::outcome(out, ": ", capture::information_answer(n, 4, info))?;
+    writeln!(out, " bytes {}", part.len())
 }
 
-pub fn part<W: Write>(out: &mut W, n: u64, p: u64) -> io::Result<()> {
+fn part<W: Write>(out: &mut W, n: u64, p: u64) -> io::Result<()> {
     let mut info = buffer_sizes::large_space();
     test_input::fill(101, &mut info);
-    let a = lent::length(sizes::SUPER_INFO_BYTES, p) % LENGTHS;
-    part_of(out, n, &info[0..a])
+    let a = lent::length(sizes::SUPER_INFO_BYTES, p).min(LARGE);
+    part_of(out, n, &info[..a])
+}
+
+// ---- all of them; where N is outside its set every buffer is short
+
+pub fn codes<W: Write>(out: &mut W) -> io::Result<()> {
+    for p in 0..27u64 {
+        code(out, 1, p)?;
+    }
+    code(out, 0, 13)
+}
+
+pub fn reads<W: Write>(out: &mut W) -> io::Result<()> {
+    for p in 0..27u64 {
+        read(out, 1, p)?;
+    }
+    read(out, 0, 13)
+}
+
+pub fn edits<W: Write>(out: &mut W) -> io::Result<()> {
+    for p in 0..162u64 {
+        edit(out, 1, (p / 81 % 2) as u8, p % 81)?;
+    }
+    edit(out, 0, 0, 40)
+}
+
+pub fn parts<W: Write>(out: &mut W) -> io::Result<()> {
+    for p in 0..3u64 {
+        part(out, 1, p)?;
+    }
+    part(out, 0, 1)
 }

@@ -1,6 +1,5 @@
 // Mapping and unmapping the first two places under the count 10,216, of which one is data.
 use crate::lent;
-use answer::Answer;
 use std::io::{self, Write};
 
 // The bytes of one group and of two places, and what is too long by one.
@@ -13,10 +12,10 @@ const WINDOW: usize = sizes::PAIR_BYTES;
 const LONG_WINDOW: usize = WINDOW + 1;
 
 // A call, and its count where that is outside its set.
-fn name<W: Write>(out: &mut W, call: &[u8], c: u64) -> io::Result<()> {
-    test_print::text(out, call)?;
+fn name<W: Write>(out: &mut W, call: &str, c: u64) -> io::Result<()> {
+    write!(out, "{call}")?;
     if sizes::PLACES < c {
-        test_print::number(out, b" of C ", c)?;
+        write!(out, " of C {c}")?;
     }
     Ok(())
 }
@@ -29,13 +28,11 @@ fn map_into<W: Write>(
     window: &mut [u8],
 ) -> io::Result<()> {
     test_input::fill(999, window);
-    name(out, b"map", c)?;
-    lent::say_spare(out, spare)?;
-    test_print::form(out, b" # #", &[groups.len() as u64, window.len() as u64])?;
-    let r: Answer = gmp_map::map(c, 1, 2, groups, window);
-    test_print::outcome(out, b": ", r)?;
-    test_print::digest(out, b" window ", window)?;
-    test_print::end(out)
+    name(out, "map", c)?;
+    let said = lent::spare_said(spare);
+    write!(out, "{said} {} {}", groups.len(), window.len())?;
+    test_print::outcome(out, ": ", gmp_map::map(c, 1, 2, groups, window))?;
+    writeln!(out, " window {:016x}", test_data::digest(window))
 }
 
 // The spare bits are the low four of the group's last byte.
@@ -46,29 +43,42 @@ fn group(spare: u8) -> [u8; LONG_GROUPS] {
     groups
 }
 
-pub fn map<W: Write>(out: &mut W, c: u64, spare: u8, p: u64) -> io::Result<()> {
-    let a = lent::length(GROUPS, p) % (LONG_GROUPS + 1);
-    let b = lent::length(WINDOW, p / 3) % (LONG_WINDOW + 1);
+fn map<W: Write>(out: &mut W, c: u64, spare: u8, p: u64) -> io::Result<()> {
+    let a = lent::length(GROUPS, p).min(LONG_GROUPS);
+    let b = lent::length(WINDOW, p / 3).min(LONG_WINDOW);
     let groups = group(spare);
     let mut window = [0u8; LONG_WINDOW];
-    map_into(out, c, spare, &groups[0..a], &mut window[0..b])
+    map_into(out, c, spare, &groups[..a], &mut window[..b])
 }
 
 fn unmap_into<W: Write>(out: &mut W, c: u64, window: &[u8], groups: &mut [u8]) -> io::Result<()> {
     test_input::fill(995, groups);
-    name(out, b"unmap", c)?;
-    test_print::form(out, b" # #", &[window.len() as u64, groups.len() as u64])?;
-    let r: Answer = gmp_map::unmap(c, 1, 2, window, groups);
-    test_print::outcome(out, b": ", r)?;
-    test_print::digest(out, b" groups ", groups)?;
-    test_print::end(out)
+    name(out, "unmap", c)?;
+    write!(out, " {} {}", window.len(), groups.len())?;
+    test_print::outcome(out, ": ", gmp_map::unmap(c, 1, 2, window, groups))?;
+    writeln!(out, " groups {:016x}", test_data::digest(groups))
 }
 
-pub fn unmap<W: Write>(out: &mut W, c: u64, p: u64) -> io::Result<()> {
-    let a = lent::length(WINDOW, p) % (LONG_WINDOW + 1);
-    let b = lent::length(GROUPS, p / 3) % (LONG_GROUPS + 1);
+fn unmap<W: Write>(out: &mut W, c: u64, p: u64) -> io::Result<()> {
+    let a = lent::length(WINDOW, p).min(LONG_WINDOW);
+    let b = lent::length(GROUPS, p / 3).min(LONG_GROUPS);
     let mut groups = [0u8; LONG_GROUPS];
     let mut window = [0u8; LONG_WINDOW];
     test_input::fill(999, &mut window);
-    unmap_into(out, c, &window[0..a], &mut groups[0..b])
+    unmap_into(out, c, &window[..a], &mut groups[..b])
+}
+
+// Where the count is none every buffer is short.
+pub fn maps<W: Write>(out: &mut W) -> io::Result<()> {
+    for p in 0..18u64 {
+        map(out, 10216, (p / 9 % 2) as u8, p % 9)?;
+    }
+    map(out, 10221, 0, 4)
+}
+
+pub fn unmaps<W: Write>(out: &mut W) -> io::Result<()> {
+    for p in 0..9u64 {
+        unmap(out, 10216, p)?;
+    }
+    unmap(out, 10221, 4)
 }

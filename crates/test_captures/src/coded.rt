@@ -4,121 +4,66 @@
 ghost use Rattle.std.specs.Prelude.{◌≡◌, length};
 ghost use Rattle.buffer_sizes.specs.Lengths.{large_bytes};
 
-use answer::Answer;
+use crate::call::{Call, LARGE};
 use std::io::{self, Write};
-
-fn say<W: Write>(out: &mut W, r: Answer, before: u64, after: u64) -> io::Result<()> {
-    test_print::outcome(out, b": ", r)?;
-    if r.number == 0 {
-        test_print::hex(out, b" digest ", after)?;
-    } else {
-        test_print::change(out, b"", before, after)?;
-    }
-    test_print::end(out)
-}
+use test_print::Change;
 
 // The capture stands full of bytes made from the seed 999.
 fn code_into<W: Write>(
     out: &mut W,
-    n: u64,
-    m0: u64,
+    call: Call,
     info: &[u8],
     parity: &[u8],
     capture: &mut [u8],
 ) -> io::Result<()> {
     test_input::fill(999, capture);
     let before = test_data::digest(capture);
-    let r = capture::code(n, m0, info, parity, capture);
-    say(out, r, before, test_data::digest(capture))
+    let coded = capture::code(call.n, call.m0, info, parity, capture);
+    let after = test_data::digest(capture);
+    test_print::outcome(out, ": ", coded)?;
+    match coded {
+        Ok(_) => writeln!(out, " digest {after:016x}"),
+        Err(_) => writeln!(out, "{}", Change { before, after }),
+    }
 }
 
 #[inline(never)]
-fn code_from<W: Write>(
-    out: &mut W,
-    n: u64,
-    m0: u64,
-    info: usize,
-    parity: usize,
-    capture: usize,
-    room: &[u8],
-) -> io::Result<()>
+fn code_from<W: Write>(out: &mut W, call: Call, room: &[u8]) -> io::Result<()>
     requires { large_bytes ≡ length room.now }
 {
     let mut space = buffer_sizes::large_space();
-    let a = info % 1300000;
-    let b = a + parity % 100000;
-    let k = capture % (buffer_sizes::LARGE_BYTES + 1);
-    code_into(out, n, m0, &room[0..a], &room[a..b], &mut space[0..k])
+    let a = call.info.min(1300000);
+    let b = a + call.parity.min(100000);
+    let k = call.capture.min(LARGE);
+    code_into(out, call, &room[..a], &room[a..b], &mut space[..k])
 }
 
-// Codes with buffers of the lengths given. The information is made from the seed 100 + n, and the parity behind it.
+// The information is made from the seed 100 + n, and the parity behind it.
 #[inline(never)]
-fn code<W: Write>(
-    out: &mut W,
-    n: u64,
-    m0: u64,
-    info: usize,
-    parity: usize,
-    capture: usize,
-) -> io::Result<()> {
+fn code<W: Write>(out: &mut W, call: Call) -> io::Result<()> {
     let mut room = buffer_sizes::large_space();
-    test_input::fill_room(n, &mut room);
-    code_from(out, n, m0, info, parity, capture, &room)
+    test_input::fill_room(call.n, &mut room);
+    code_from(out, call, &room)
 }
 
 fn granted<W: Write>(out: &mut W, n: u64, m0: u64) -> io::Result<()> {
-    test_print::frames(out, n)?;
-    test_print::number(out, b" m0 ", m0)?;
-    code(
-        out,
-        n,
-        m0,
-        buffer_sizes::information(n),
-        buffer_sizes::parity(n),
-        buffer_sizes::capture(n),
-    )
+    write!(out, "N {n} m0 {m0}")?;
+    code(out, Call::stated(n, m0))
 }
 
-fn refused<W: Write>(
-    out: &mut W,
-    name: &[u8],
-    n: u64,
-    m0: u64,
-    info: usize,
-    parity: usize,
-    capture: usize,
-) -> io::Result<()> {
-    test_print::text(out, name)?;
-    code(out, n, m0, info, parity, capture)
+fn refused<W: Write>(out: &mut W, name: &str, call: Call) -> io::Result<()> {
+    write!(out, "{name}")?;
+    code(out, call)
 }
 
-fn numbers<W: Write>(out: &mut W) -> io::Result<()> {
-    refused(out, b"N 0", 0, 7, 152915, 10240, 183296)?;
-    refused(out, b"N 9", 9, 7, 152915, 10240, 183296)?;
-    refused(out, b"m0 128", 1, 128, 152915, 10240, 183296)
-}
-
-fn lengths<W: Write>(out: &mut W) -> io::Result<()> {
-    refused(
-        out,
-        b"information one byte short",
-        1,
-        7,
-        152914,
-        10240,
-        183296,
-    )?;
-    refused(out, b"parity one byte long", 1, 7, 152915, 10241, 183296)?;
-    refused(out, b"capture one byte short", 1, 7, 152915, 10240, 183295)
-}
-
-// The first m0, those on both sides of 64, and the last two.
-fn edges<W: Write>(out: &mut W) -> io::Result<()> {
-    granted(out, 1, 0)?;
-    granted(out, 1, 63)?;
-    granted(out, 1, 64)?;
-    granted(out, 1, 126)?;
-    granted(out, 1, 127)
+fn refusals<W: Write>(out: &mut W) -> io::Result<()> {
+    let right = Call::stated(1, 7);
+    refused(out, "N 0", Call { n: 0, ..right })?;
+    refused(out, "N 9", Call { n: 9, ..right })?;
+    refused(out, "m0 128", Call { m0: 128, ..right })?;
+    refused(out, "information one byte short", Call { info: 152914, ..right })?;
+    refused(out, "parity one byte long", Call { parity: 10241, ..right })?;
+    refused(out, "capture one byte short", Call { capture: 183295, ..right })
 }
 
 pub fn cases<W: Write>(out: &mut W) -> io::Result<()> {
@@ -126,7 +71,10 @@ pub fn cases<W: Write>(out: &mut W) -> io::Result<()> {
     granted(out, 2, 14)?;
     granted(out, 3, 21)?;
     granted(out, 8, 56)?;
-    edges(out)?;
-    numbers(out)?;
-    lengths(out)
+
+    // The first m0, those on both sides of 64, and the last two.
+    for m0 in &[0, 63, 64, 126, 127] {
+        granted(out, 1, *m0)?;
+    }
+    refusals(out)
 }

@@ -5,51 +5,11 @@
 ghost use Rattle.std.specs.Prelude.{◌≡◌, length};
 ghost use Rattle.buffer_sizes.specs.Lengths.{large_bytes};
 
-use answer::Answer;
 use std::io::{self, Write};
+use test_print::Change;
 
 // The client blocks of a super frame.
 const BLOCKS: u64 = sizes::SUPER_CLIENT_BLOCKS as u64;
-
-fn say_code<W: Write>(out: &mut W, n: u64, r: Answer, before: u64, after: u64) -> io::Result<()> {
-    test_print::frames(out, n)?;
-    test_print::outcome(out, b" code: ", r)?;
-    test_print::change(out, b" capture", before, after)
-}
-
-fn say_read<W: Write>(
-    out: &mut W,
-    n: u64,
-    r: Answer,
-    before: u64,
-    after: u64,
-    parity_before: u64,
-    parity_after: u64,
-) -> io::Result<()> {
-    test_print::frames(out, n)?;
-    test_print::outcome(out, b" read, one flip in every word: ", r)?;
-    test_print::change(out, b" information", before, after)?;
-    test_print::change(out, b" parity", parity_before, parity_after)?;
-    test_print::end(out)
-}
-
-fn say_edit<W: Write>(
-    out: &mut W,
-    n: u64,
-    block: u64,
-    r: Answer,
-    before: u64,
-    after: u64,
-    list_before: u64,
-    list_after: u64,
-) -> io::Result<()> {
-    test_print::frames(out, n)?;
-    test_print::number(out, b" edit of block ", block)?;
-    test_print::outcome(out, b": ", r)?;
-    test_print::change(out, b" capture", before, after)?;
-    test_print::change(out, b" list", list_before, list_after)?;
-    test_print::end(out)
-}
 
 fn code_into<W: Write>(
     out: &mut W,
@@ -59,9 +19,12 @@ fn code_into<W: Write>(
     capture: &mut [u8],
 ) -> io::Result<()> {
     let before = test_data::digest(capture);
-    let r = capture::code(n, 7, info, parity, capture);
-    say_code(out, n, r, before, test_data::digest(capture))?;
-    test_print::inputs(out, test_data::digest(info), test_data::digest(parity))
+    let coded = capture::code(n, 7, info, parity, capture);
+    let after = test_data::digest(capture);
+    write!(out, "N {n}")?;
+    test_print::outcome(out, " code: ", coded)?;
+    write!(out, " capture{}", Change { before, after })?;
+    test_print::inputs(out, info, parity)
 }
 
 fn code_from<W: Write>(
@@ -75,7 +38,7 @@ fn code_from<W: Write>(
 {
     let a = buffer_sizes::information(m);
     let b = a + buffer_sizes::parity(m);
-    code_into(out, n, &room[0..a], &room[a..b], capture)
+    code_into(out, n, &room[..a], &room[a..b], capture)
 }
 
 // With the information and the parity of m super frames, one made behind the other.
@@ -93,18 +56,20 @@ fn read_into<W: Write>(
     info: &mut [u8],
     parity: &mut [u8],
 ) -> io::Result<()> {
-    let before = test_data::digest(info);
+    let info_before = test_data::digest(info);
     let parity_before = test_data::digest(parity);
-    let r = capture::read(n, 7, capture, info, parity);
-    say_read(
-        out,
-        n,
-        r,
-        before,
-        test_data::digest(info),
-        parity_before,
-        test_data::digest(parity),
-    )
+    let read = capture::read(n, 7, capture, info, parity);
+    write!(out, "N {n}")?;
+    test_print::outcome(out, " read, one flip in every word: ", read)?;
+    let of_info = Change {
+        before: info_before,
+        after: test_data::digest(info),
+    };
+    let of_parity = Change {
+        before: parity_before,
+        after: test_data::digest(parity),
+    };
+    writeln!(out, " information{of_info} parity{of_parity}")
 }
 
 // Into zeros.
@@ -114,7 +79,7 @@ fn read<W: Write>(out: &mut W, n: u64, m: u64, capture: &[u8]) -> io::Result<()>
     let mut parity = buffer_sizes::small_space();
     let a = buffer_sizes::information(m);
     let b = buffer_sizes::parity(m);
-    read_into(out, n, capture, &mut info[0..a], &mut parity[0..b])
+    read_into(out, n, capture, &mut info[..a], &mut parity[..b])
 }
 
 // The seven bits behind the 257 are zero.
@@ -122,19 +87,20 @@ fn edit<W: Write>(out: &mut W, n: u64, block: u64, capture: &mut [u8]) -> io::Re
     let bits = [128u8; sizes::BLOCK_BYTES];
     let parity = [90u8; sizes::PARITY_BYTES];
     let mut list = [7u64; sizes::LIST_LENGTH];
-    let before = test_data::digest(capture);
-    let list_before = test_data::digest_numbers(&list);
-    let r = capture::edit(n, block, &bits, &parity, capture, &mut list);
-    say_edit(
-        out,
-        n,
-        block,
-        r,
-        before,
-        test_data::digest(capture),
-        list_before,
-        test_data::digest_numbers(&list),
-    )
+    let capture_before = test_data::digest(capture);
+    let list_before = test_data::digest(&list);
+    let edited = capture::edit(n, block, &bits, &parity, capture, &mut list);
+    write!(out, "N {n} edit of block {block}")?;
+    test_print::outcome(out, ": ", edited)?;
+    let of_capture = Change {
+        before: capture_before,
+        after: test_data::digest(capture),
+    };
+    let of_list = Change {
+        before: list_before,
+        after: test_data::digest(&list),
+    };
+    writeln!(out, " capture{of_capture} list{of_list}")
 }
 
 // Flipped twice the bits are as they were.
@@ -147,13 +113,9 @@ fn flipped<W: Write>(out: &mut W, n: u64, m: u64, capture: &mut [u8]) -> io::Res
 
 // The last client block, and the first past it; a block far past the end for none.
 fn edited<W: Write>(out: &mut W, n: u64, capture: &mut [u8]) -> io::Result<()> {
-    edit(
-        out,
-        n,
-        (BLOCKS * (n % 10) + (10 * BLOCKS - 1)) % (10 * BLOCKS),
-        capture,
-    )?;
-    edit(out, n, BLOCKS * (n % 10), capture)
+    let blocks = BLOCKS * (n % 10);
+    edit(out, n, (blocks + (10 * BLOCKS - 1)) % (10 * BLOCKS), capture)?;
+    edit(out, n, blocks, capture)
 }
 
 fn case<W: Write>(out: &mut W, n: u64, m: u64, capture: &mut [u8]) -> io::Result<()> {
@@ -167,13 +129,12 @@ fn case<W: Write>(out: &mut W, n: u64, m: u64, capture: &mut [u8]) -> io::Result
 fn sized<W: Write>(out: &mut W, n: u64, m: u64) -> io::Result<()> {
     let mut capture = buffer_sizes::large_space();
     let k = buffer_sizes::capture(m);
-    case(out, n, m, &mut capture[0..k])
+    case(out, n, m, &mut capture[..k])
 }
 
 pub fn cases<W: Write>(out: &mut W) -> io::Result<()> {
-    sized(out, 0, 1)?;
-    for m in 1..9u64 {
-        sized(out, m, m)?;
+    for n in 0..10u64 {
+        sized(out, n, n.clamp(1, 8))?;
     }
-    sized(out, 9, 8)
+    Ok(())
 }

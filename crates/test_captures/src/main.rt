@@ -2,6 +2,7 @@
 // from a capture of its own, so that most functions take numbers alone and little is known of any buffer: that keeps the check short.
 #![tactic(auto)]
 
+mod call;
 mod coded;
 mod frames;
 mod parts;

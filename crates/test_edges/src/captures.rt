@@ -1,33 +1,6 @@
 // Captures of every length with every edge of m0, from many seeds. All that a case needs is made by one generator from its seed.
-use answer::Answer;
 use std::io::{self, Write};
 use test_data::Generator;
-
-fn name<W: Write>(out: &mut W, n: u64, seed: u64, m0: u64) -> io::Result<()> {
-    test_print::frames(out, n)?;
-    test_print::number(out, b" seed ", seed)?;
-    test_print::number(out, b" m0 ", m0)
-}
-
-fn say_coded<W: Write>(out: &mut W, r: Answer, capture: &[u8]) -> io::Result<()> {
-    test_print::outcome(out, b": ", r)?;
-    test_print::digest(out, b" capture ", capture)?;
-    test_print::end(out)
-}
-
-fn say_edit<W: Write>(
-    out: &mut W,
-    block: u64,
-    r: Answer,
-    capture: u64,
-    list: u64,
-) -> io::Result<()> {
-    test_print::number(out, b" block ", block)?;
-    test_print::outcome(out, b": ", r)?;
-    test_print::hex(out, b" capture ", capture)?;
-    test_print::hex(out, b" list ", list)?;
-    test_print::end(out)
-}
 
 fn edit_by<W: Write>(
     out: &mut W,
@@ -38,53 +11,51 @@ fn edit_by<W: Write>(
     capture: &mut [u8],
 ) -> io::Result<()> {
     let mut list = [7u64; sizes::LIST_LENGTH];
-    let r = capture::edit(n, block, bits, parity, capture, &mut list);
-    say_edit(
-        out,
-        block,
-        r,
-        test_data::digest(capture),
-        test_data::digest_numbers(&list),
-    )
+    let edited = capture::edit(n, block, bits, parity, capture, &mut list);
+    write!(out, " block {block}")?;
+    test_print::outcome(out, ": ", edited)?;
+    let capture = test_data::digest(capture);
+    let list = test_data::digest(&list);
+    writeln!(out, " capture {capture:016x} list {list:016x}")
 }
 
 // A client block, whose seven bits behind the 257 are zero, and the parity of its FEC block.
-fn edit<W: Write>(out: &mut W, n: u64, g: Generator, capture: &mut [u8]) -> io::Result<Generator> {
+fn edit<W: Write>(
+    out: &mut W,
+    n: u64,
+    g: &mut Generator,
+    capture: &mut [u8],
+) -> io::Result<()> {
     let mut bits = [0u8; sizes::BLOCK_BYTES];
     let mut parity = [0u8; sizes::PARITY_BYTES];
-    let first = test_data::step(g);
-    let h = test_data::fill(test_data::fill(first, &mut bits), &mut parity);
-    bits[32] = bits[32] & 128;
-    let block = test_data::below(first, sizes::SUPER_CLIENT_BLOCKS as u64 * (n % 9));
-    edit_by(out, n, block, &bits, &parity, capture)?;
-    Ok(h)
+    g.step();
+    let block = g.below(sizes::SUPER_CLIENT_BLOCKS as u64 * (n % 9));
+    g.fill(&mut bits);
+    g.fill(&mut parity);
+    bits[32] &= 128;
+    edit_by(out, n, block, &bits, &parity, capture)
 }
 
-// Flips a bit of word w, in one of three words, and returns the generator as it then is.
-fn flip_some(g: Generator, capture: &mut [u8], w: usize) -> Generator {
-    let first = test_data::step(g);
-    let second = test_data::step(first);
-    if test_data::below(first, 3) == 0 {
-        test_flip::flip(
-            capture,
-            w,
-            test_flip::bit(test_data::below(second, sizes::WORD_BITS as u64) as usize),
-        );
+// Flips a bit of word w, in one of three words.
+fn flip_some(g: &mut Generator, capture: &mut [u8], w: usize) {
+    g.step();
+    let flips = g.below(3) == 0;
+    g.step();
+    if flips {
+        let i = g.below(sizes::WORD_BITS as u64) as usize;
+        test_flip::flip(capture, w, test_flip::bit(i));
     }
-    second
 }
 
-fn flip_all(g: Generator, capture: &mut [u8]) -> Generator {
-    let mut h = g;
+fn flip_all(g: &mut Generator, capture: &mut [u8]) {
     for w in 0..capture.len() / sizes::WORD_BYTES {
-        h = flip_some(h, capture, w);
+        flip_some(g, capture, w);
     }
-    h
 }
 
 fn read_into<W: Write>(
     out: &mut W,
-    what: &[u8],
+    what: &str,
     n: u64,
     m0: u64,
     capture: &[u8],
@@ -92,90 +63,80 @@ fn read_into<W: Write>(
     parity: &mut [u8],
 ) -> io::Result<()> {
     test_print::outcome(out, what, capture::read(n, m0, capture, info, parity))?;
-    test_print::inputs(out, test_data::digest(info), test_data::digest(parity))
+    test_print::inputs(out, info, parity)
 }
 
 // Into zeros.
-fn read<W: Write>(out: &mut W, what: &[u8], n: u64, m0: u64, capture: &[u8]) -> io::Result<()> {
+fn read<W: Write>(out: &mut W, what: &str, n: u64, m0: u64, capture: &[u8]) -> io::Result<()> {
     let mut info = buffer_sizes::large_space();
     let mut parity = buffer_sizes::small_space();
     let a = buffer_sizes::information(n);
     let b = buffer_sizes::parity(n);
-    read_into(
-        out,
-        what,
-        n,
-        m0,
-        capture,
-        &mut info[0..a],
-        &mut parity[0..b],
-    )
+    read_into(out, what, n, m0, capture, &mut info[..a], &mut parity[..b])
 }
 
 fn code_from<W: Write>(
     out: &mut W,
     n: u64,
     m0: u64,
-    g: Generator,
+    g: &mut Generator,
     capture: &mut [u8],
     info: &mut [u8],
     parity: &mut [u8],
-) -> io::Result<Generator> {
-    let h = test_data::fill(test_data::fill(g, info), parity);
-    let r = capture::code(n, m0, info, parity, capture);
-    say_coded(out, r, capture)?;
-    Ok(h)
+) -> io::Result<()> {
+    g.fill(info);
+    g.fill(parity);
+    test_print::outcome(out, ": ", capture::code(n, m0, info, parity, capture))?;
+    writeln!(out, " capture {:016x}", test_data::digest(capture))
 }
 
 fn code<W: Write>(
     out: &mut W,
     n: u64,
     m0: u64,
-    g: Generator,
+    g: &mut Generator,
     capture: &mut [u8],
-) -> io::Result<Generator> {
+) -> io::Result<()> {
     let mut info = buffer_sizes::large_space();
     let mut parity = buffer_sizes::small_space();
     let a = buffer_sizes::information(n);
     let b = buffer_sizes::parity(n);
-    code_from(out, n, m0, g, capture, &mut info[0..a], &mut parity[0..b])
+    code_from(out, n, m0, g, capture, &mut info[..a], &mut parity[..b])
 }
 
 fn edit_and_read<W: Write>(
     out: &mut W,
     n: u64,
     m0: u64,
-    g: Generator,
+    g: &mut Generator,
     capture: &mut [u8],
-) -> io::Result<Generator> {
-    let h = edit(out, n, g, capture)?;
-    let k = flip_all(h, capture);
-    read(out, b" damaged: ", n, m0, capture)?;
-    Ok(k)
+) -> io::Result<()> {
+    edit(out, n, g, capture)?;
+    flip_all(g, capture);
+    read(out, " damaged: ", n, m0, capture)
 }
 
 // Read with the number before m0 and the one after. One of them has the same half, so that only FEC block 1 tells.
 fn read_otherwise<W: Write>(out: &mut W, n: u64, m0: u64, capture: &[u8]) -> io::Result<()> {
-    read(out, b" m0 one less: ", n, (m0 % 128 + 127) % 128, capture)?;
-    read(out, b" m0 one more: ", n, (m0 % 128 + 1) % 128, capture)
+    read(out, " m0 one less: ", n, (m0 % 128 + 127) % 128, capture)?;
+    read(out, " m0 one more: ", n, (m0 % 128 + 1) % 128, capture)
 }
 
 // Where coding is refused the capture stays as it is: zeros, which pass their checks. The second time the edit meets a flipped bit, and some words
 // are beyond repair.
 fn case<W: Write>(out: &mut W, n: u64, seed: u64, m0: u64, capture: &mut [u8]) -> io::Result<()> {
-    name(out, n, seed, m0)?;
-    let mut g = code(out, n, m0, test_data::start(seed), capture)?;
+    let mut g = Generator::start(seed);
+    write!(out, "N {n} seed {seed} m0 {m0}")?;
+    code(out, n, m0, &mut g, capture)?;
     read_otherwise(out, n, m0, capture)?;
-    for i in 0..2u32 {
-        g = edit_and_read(out, n, m0, g, capture)?;
-    }
-    Ok(())
+    edit_and_read(out, n, m0, &mut g, capture)?;
+    edit_and_read(out, n, m0, &mut g, capture)
 }
 
 fn sized<W: Write>(out: &mut W, n: u64, seed: u64, m0: u64) -> io::Result<()> {
     let mut capture = buffer_sizes::large_space();
     let k = buffer_sizes::capture(n);
-    case(out, n, seed, m0, &mut capture[0..k])
+    case(out, n, seed, m0, &mut capture[..k])
 }
 
 // The first m0, those on both sides of 64, the last two, and the one past them, which is refused; and one between.

@@ -7,6 +7,7 @@ mod mapped;
 mod places;
 mod published;
 mod starred;
+mod window;
 
 use std::io;
 

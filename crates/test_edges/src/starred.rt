@@ -2,49 +2,37 @@
 use gmp::Kind;
 use std::io::{self, Write};
 
-fn crc_of<W: Write>(out: &mut W, name: &[u8], s: &[u8]) -> io::Result<()> {
+fn crc_of<W: Write>(out: &mut W, name: &str, s: &[u8]) -> io::Result<()> {
     let t = crc::table();
-    test_print::hex(out, name, crc::crc(&t, s) as u64)?;
-    test_print::end(out)
+    let value = u64::from(crc::crc(&t, s));
+    writeln!(out, "CRC of {name}: {value:016x}")
 }
 
 fn crc_of_zeros<W: Write>(out: &mut W) -> io::Result<()> {
     let zeros = [0u8; sizes::INFO_BYTES];
-    crc_of(out, b"CRC of 30583 zero bytes: ", &zeros)
+    crc_of(out, "30583 zero bytes", &zeros)
 }
 
 // The pad is zero before scrambling, so that the scrambled pad is the sequence itself.
 fn sequence<W: Write>(out: &mut W) -> io::Result<()> {
     let s = scrambler::sequence();
-    test_print::word(
-        out,
-        b"scrambler from bit 0 on: ",
-        bits_copy::word_from(&s, 0),
-    )?;
-    test_print::word(
-        out,
-        b"scrambled pad from bit 0 on: ",
-        bits_copy::word_from(&s, sizes::PAD_FROM),
-    )
+    let first = bits_copy::word_from(&s, 0);
+    let pad = bits_copy::word_from(&s, sizes::PAD_FROM);
+    test_print::word(out, "scrambler from bit 0 on: ", first)?;
+    test_print::word(out, "scrambled pad from bit 0 on: ", pad)
 }
 
+// A run as the numbers that C is handed: number, last place and kind. Where it is refused the last is 0 and the kind is the first.
 pub fn place<W: Write>(out: &mut W, c: u64, j: u64) -> io::Result<()> {
-    test_print::number(out, b"C ", c)?;
-    test_print::number(out, b" place ", j)?;
-    let r = gmp::run(c, j);
-    test_print::number(out, b": number ", r.number)?;
-    test_print::number(out, b" last ", r.last)?;
-    let kind = r.kind;
-    match kind {
-        Kind::Stuff => { test_print::text(out, b" stuff\n") }
-        Kind::Data => { test_print::text(out, b" data\n") }
-    }
-}
-
-fn word<W: Write>(out: &mut W, w: usize) -> io::Result<()> {
-    test_print::number(out, b"word ", w as u64)?;
-    test_print::number(out, b": element ", line::element_in(w) as u64)?;
-    test_print::end(out)
+    let (number, last, kind) = match gmp::run(c, j) {
+        Ok(run) => (0, run.last, run.kind),
+        Err(refused) => (refused.refusal.number(), 0, Kind::Stuff),
+    };
+    let kind = match kind {
+        Kind::Stuff => "stuff",
+        Kind::Data => "data",
+    };
+    writeln!(out, "C {c} place {j}: number {number} last {last} {kind}")
 }
 
 // All bytes but one are zero.
@@ -52,25 +40,40 @@ fn symbol<W: Write>(out: &mut W) -> io::Result<()> {
     let mut capture = [0u8; 256];
     capture[145] = 145;
     let v = line_order::word_in(&capture, 9);
-    test_print::number(out, b"word 9 symbol 2: byte ", bits::wide(v[2]) as u64)?;
-    test_print::end(out)
+    writeln!(out, "word 9 symbol 2: byte {}", v[2])
+}
+
+// A count and a place.
+const PLACES: [(u64, u64); 7] = [
+    (0, 1),
+    (10220, 10220),
+    (10216, 1),
+    (10216, 2),
+    (10216, 2556),
+    (10217, 3407),
+    (10217, 3408),
+];
+
+fn places<W: Write>(out: &mut W) -> io::Result<()> {
+    for (c, j) in &PLACES {
+        place(out, *c, *j)?;
+    }
+    Ok(())
+}
+
+fn words<W: Write>(out: &mut W) -> io::Result<()> {
+    for w in &[480, 15, 496, 11456] {
+        writeln!(out, "word {}: element {}", *w, line::element_in(*w))?;
+    }
+    Ok(())
 }
 
 pub fn cases<W: Write>(out: &mut W) -> io::Result<()> {
-    crc_of(out, b"CRC of 123456789: ", b"123456789")?;
+    crc_of(out, "123456789", b"123456789")?;
     crc_of_zeros(out)?;
     sequence(out)?;
-    place(out, 0, 1)?;
-    place(out, 10220, 10220)?;
-    place(out, 10216, 1)?;
-    place(out, 10216, 2)?;
-    place(out, 10216, 2556)?;
-    place(out, 10217, 3407)?;
-    place(out, 10217, 3408)?;
-    word(out, 480)?;
-    word(out, 15)?;
-    word(out, 496)?;
-    word(out, 11456)?;
+    places(out)?;
+    words(out)?;
     symbol(out)?;
-    test_print::word(out, b"element of zeros: word ", hamming::encode([0u8; 16]))
+    test_print::word(out, "element of zeros: word ", hamming::encode([0u8; 16]))
 }

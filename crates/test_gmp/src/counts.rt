@@ -1,114 +1,80 @@
 // What one stored case of gmp_runs cannot show: counts written in every way, the runs of the seven counts of 001 Table 7, and run requests at the edges of
 // their sets.
-ghost use Rattle.std.specs.Prelude.{◌≤◌, ◌<◌, ◌+◌, length, IfOk};
-
-use answer::Answer;
+use answer::{Answer, Refused};
 use gmp::Kind;
+use gmp_count::Partial;
+use std::fmt;
 use std::io::{self, Write};
 
 // ---- what is written
 
-// A number. The largest are written by what they lack of 2^64.
-fn number<W: Write>(out: &mut W, n: u64) -> io::Result<()> {
-    if n < 9223372036854775808 {
-        test_print::number(out, b" ", n)
-    } else {
-        test_print::number(out, b" 2^64-", 18446744073709551615 - n + 1)
+// A number of a request. The largest are written by what they lack of 2^64.
+#[derive(Clone, Copy)]
+struct Asked(u64);
+
+impl fmt::Display for Asked {
+    fn fmt<W: fmt::Write>(&self, f: &mut fmt::Formatter<W>) -> fmt::Result {
+        if self.0 < 1 << 63 {
+            write!(f, "{}", self.0)
+        } else {
+            write!(f, "2^64-{}", u64::MAX - self.0 + 1)
+        }
     }
 }
 
 // The number and the count of an answer.
-fn print_answer<W: Write>(out: &mut W, name: &[u8], a: Answer) -> io::Result<()> {
-    test_print::text(out, name)?;
-    number(out, a.number)?;
-    number(out, a.count)?;
-    test_print::end(out)
+fn print_answer<W: Write>(
+    out: &mut W,
+    name: &str,
+    answered: Result<u64, Refused>,
+) -> io::Result<()> {
+    let a = Answer::from(answered);
+    writeln!(out, "{name} {} {}", a.number, a.count)
 }
 
 // ---- counts read from text
 
-// A case is its name, a `=`, what is read and a `|`. Takes byte k, where the name or what is read has begun at `from`, and returns where the next
-// begins.
-fn take_byte<W: Write>(out: &mut W, s: &[u8], from: usize, k: usize) -> io::Result<usize>
-    requires { (from ≤ k) × (k < length s.now) }
-    ensures { IfOk result (λ next. next ≤ k + 1) }
-{
-    if s[k] == b'=' {
-        test_print::text(out, &s[from..k])?;
-        return Ok(k + 1);
-    }
-    if s[k] == b'|' {
-        print_answer(out, b"", gmp_count::count_of(&s[from..k]))?;
-        return Ok(k + 1);
-    }
-    Ok(from)
-}
+// A name, and what is read.
+const TEXTS: [(&str, &[u8]); 12] = [
+    ("line empty", b""),
+    ("line empty, then 10216", b"\n10216\n"),
+    ("line 10220", b"10220\n"),
+    ("line 10221", b"10221\n"),
+    ("line 0", b"0\n"),
+    ("line 00010216", b"00010216\n"),
+    ("line 2^64", b"18446744073709551616\n"),
+    ("line 10216 CR", b"10216\r\n"),
+    ("line letters", b"ten\n"),
+    ("line 10216 and no line feed", b"10216"),
+    ("line 10216, then letters", b"10216\nten\n"),
+    ("line 1 2", b"1 2\n"),
+];
 
-fn texts<W: Write>(out: &mut W, s: &[u8]) -> io::Result<()> {
-    let mut from = 0;
-    for k in 0..s.len() {
-        from = take_byte(out, s, from, k)?;
+fn texts<W: Write>(out: &mut W) -> io::Result<()> {
+    for (name, line) in &TEXTS {
+        print_answer(out, name, gmp_count::count_of(line))?;
     }
     Ok(())
 }
 
 // A count in parts, cut anywhere.
 fn parts<W: Write>(out: &mut W) -> io::Result<()> {
-    let first = gmp_count::more(gmp_count::start(), b"0000");
-    let second = gmp_count::more(first, b"102");
-    let third = gmp_count::more(second, b"16\n7");
-    let fourth = gmp_count::more(third, b"9\n");
-    print_answer(out, b"parts 00 102 16", gmp_count::so_far(fourth))
+    let read = Partial::start()
+        .more(b"0000")
+        .more(b"102")
+        .more(b"16\n7")
+        .more(b"9\n");
+    print_answer(out, "parts 00 102 16", read.so_far())
 }
 
 // ---- runs
 
 // The stuff places of a count, and how many runs there are: 001 Table 7.
 fn table_row<W: Write>(out: &mut W, c: u64) -> io::Result<()> {
-    let a = gmp::runs(c, 1);
-    test_print::text(out, b"Cm")?;
-    number(out, c)?;
-    test_print::text(out, b" runs")?;
-    number(out, a.count)?;
-    test_print::text(out, b" stuff")?;
+    let runs = Answer::from(gmp::runs(c, 1)).count;
+    write!(out, "Cm {c} runs {runs} stuff")?;
     test_print::stuff_runs(out, c)?;
-    test_print::end(out)
-}
-
-fn run<W: Write>(out: &mut W, c: u64, j: u64) -> io::Result<()> {
-    let r = gmp::run(c, j);
-    test_print::text(out, b"run")?;
-    number(out, c)?;
-    number(out, j)?;
-    number(out, r.number)?;
-    let kind = r.kind;
-    match kind {
-        Kind::Stuff => number(out, 0)?,
-        Kind::Data => number(out, 1)?,
-    }
-    number(out, r.last)?;
-    print_answer(out, b" runs", gmp::runs(c, j))
-}
-
-// ---- the cases
-
-fn first_texts<W: Write>(out: &mut W) -> io::Result<()> {
-    texts(
-        out,
-        b"\
-        line empty=|\
-        line empty, then 10216=\n10216\n|\
-        line 10220=10220\n|\
-        line 10221=10221\n|\
-        line 0=0\n|\
-        line 00010216=00010216\n|\
-        line 2^64=18446744073709551616\n|\
-        line 10216 CR=10216\r\n|\
-        line letters=ten\n|\
-        line 10216 and no line feed=10216|\
-        line 10216, then letters=10216\nten\n|\
-        line 1 2=1 2\n|",
-    )
+    writeln!(out)
 }
 
 fn table<W: Write>(out: &mut W) -> io::Result<()> {
@@ -118,40 +84,39 @@ fn table<W: Write>(out: &mut W) -> io::Result<()> {
     Ok(())
 }
 
-// A count and a place, ten times.
-const REQUESTS: [u64; 20] = [
-    0,
-    1,
-    10220,
-    10220,
-    10221,
-    1,
-    10216,
-    0,
-    10216,
-    10220,
-    10216,
-    10221,
-    5110,
-    1,
-    1,
-    1,
-    10217,
-    3407,
-    18446744073709551615,
-    18446744073709551615,
+// A run as the numbers that C is handed: number, kind and last place.
+fn run<W: Write>(out: &mut W, c: u64, j: u64) -> io::Result<()> {
+    write!(out, "run {} {}", Asked(c), Asked(j))?;
+    match gmp::run(c, j) {
+        Ok(run) => write!(out, " 0 {} {}", u8::from(run.kind == Kind::Data), run.last)?,
+        Err(refused) => write!(out, " {} 0 0", refused.refusal.number())?,
+    }
+    print_answer(out, " runs", gmp::runs(c, j))
+}
+
+// A count and a place.
+const REQUESTS: [(u64, u64); 10] = [
+    (0, 1),
+    (10220, 10220),
+    (10221, 1),
+    (10216, 0),
+    (10216, 10220),
+    (10216, 10221),
+    (5110, 1),
+    (1, 1),
+    (10217, 3407),
+    (u64::MAX, u64::MAX),
 ];
 
 fn runs<W: Write>(out: &mut W) -> io::Result<()> {
-    let r = REQUESTS;
-    for k in 0..10usize {
-        run(out, r[2 * k], r[2 * k + 1])?;
+    for (c, j) in &REQUESTS {
+        run(out, *c, *j)?;
     }
     Ok(())
 }
 
 pub fn cases<W: Write>(out: &mut W) -> io::Result<()> {
-    first_texts(out)?;
+    texts(out)?;
     parts(out)?;
     table(out)?;
     runs(out)

@@ -3,6 +3,7 @@
 
 use answer::{Answer, Refused};
 use gmp::Kind;
+use std::fmt;
 use std::io::{self, Write};
 
 // A code word, byte by byte, behind its name.
@@ -47,8 +48,16 @@ pub fn outcome<W: Write>(
 }
 
 // Digests of what a buffer held before a call and holds after it, behind what it is of.
-pub fn change<W: Write>(out: &mut W, name: &str, before: u64, after: u64) -> io::Result<()> {
-    write!(out, "{name} before {before:016x} after {after:016x}")
+#[derive(Clone, Copy)]
+pub struct Change {
+    pub before: u64,
+    pub after: u64,
+}
+
+impl fmt::Display for Change {
+    fn fmt<W: fmt::Write>(&self, f: &mut fmt::Formatter<W>) -> fmt::Result {
+        write!(f, " before {:016x} after {:016x}", self.before, self.after)
+    }
 }
 
 // Digests of information and parity end a line.
