@@ -1,6 +1,6 @@
 -- The laws of laying words out, of taking one and of putting one back, once for every order that is one to one; then the line's order,
 -- which is. Assumes nothing.
-use Prim.Native.Nat.{ℕ, zero, suc, ◌+◌, ◌*◌, ◌/◌, ◌%◌, ◌≤◌, ◌<◌, min}
+use Prim.Native.Nat.{ℕ, zero, suc, ◌+◌, ◌*◌, ◌/◌, ◌%◌, ◌≤◌, ◌<◌}
 use mathlib.Core.Bool.{Bool, true, false, cond}
 use mathlib.Core.Path.{◌≡◌, refl, sym, ap, ap₂, ◌∙◌}
 use mathlib.Core.List.{List}
@@ -9,7 +9,7 @@ use native.Mathlib.Decide.{ℕ_discrete}
 use native.Mathlib.Omega.{arith}
 use borrow.Author.Tests.{lt-ltb, le-ltb, eq-eqb, ne_eqb}
 use lib.Dec.{lit<, eqb}
-use lib.ListN.{length, get_or, set, length-set, get_or-eq_default}
+use lib.ListN.{length, get_or, set, length-set}
 use lib.Seq.{get_or-set_same, get_or-set_other}
 use Rattle.bits.specs.Bits.{Bytes}
 use Rattle.prelude.specs.Loops.{upto}
@@ -255,12 +255,6 @@ unfolding symbol_at
 symbol_group g b = let p : (group_size * g + b) % group_size ≡ b % group_size = omega arith in rw p
 
 -- ---- the line's order: captures and words
-
--- at a capture's length there is nothing, as past it
-pub get_or-below : (cap : List ℕ) (p : ℕ) → get_or cap (min p (length cap)) 0 ≡ get_or cap p 0
-get_or-below cap p =
-    by_bound (length cap) p (λ h. let e : min p (length cap) ≡ p = omega arith in rw e)
-    (λ h. get_or-eq_default cap 0 (omega arith) ∙ sym (get_or-eq_default cap 0 h))
 
 pub length-word : (cap : List ℕ) (w : ℕ) → length (word_in cap w) ≡ word_bytes
 length-word = length-word_by the_line_order
