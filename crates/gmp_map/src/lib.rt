@@ -96,6 +96,8 @@ impl Places {
     }
 
     // All places of a window, two by two.
+    // Kept: an index, here and in `fill_groups`. With `chunks_exact_mut(PAIR_BYTES).enumerate()` no proof was found of what stands in the bytes that
+    // the iterator has passed: its invariant reaches only those that are left.
     fn fill_window(self, groups: &[u8], window: &mut [u8])
         requires { length window.old ≡ window_bytes self.n }
         ensures { window.new ≡ pack (window_bytes self.n) (window_bit self.c self.f groups.now) }
