@@ -20,6 +20,7 @@ pub const SMALL_BYTES: usize = sizes::MOST_FRAMES * sizes::SUPER_PARITY_BYTES + 
 
 pub type Small = [u8; SMALL_BYTES];
 
+// Kept: two functions. Each is the one literal `[0; N]`; a function over N would be called as `space::<LARGE_BYTES>()` and say no more.
 pub fn large_space() -> Large
     ensures room { large_bytes ≡ length result }
     ensures zeros { result ≡ replicate large_bytes 0 }
@@ -35,6 +36,7 @@ pub fn small_space() -> Small
 }
 
 // The bytes of information of n super frames; 0 where no capture has so many.
+// Kept: 0 and no Option, here and in the four behind: it is what `up_to` and `data_in` of the clauses state for every n.
 pub fn information(n: u64) -> usize
     ensures { Stated (info_length most_frames) (up_to most_frames info_length n) result }
 {

@@ -40,6 +40,7 @@ pub fn runs(c: u64, j: u64) -> Result<u64, Refused>
 }
 
 // How many of the n places from f on are data. Where c is no count, or they are not all places, it is 0.
+// Kept: 0 and no Option: `DataIn` promises a number for any c, f and n, and `buffer_sizes::groups` hands it on.
 pub fn data_in(c: u64, f: u64, n: u64) -> u64
     ensures { DataIn c f n result }
 {
@@ -90,6 +91,7 @@ fn run_at(c: u64, j: u64) -> Run
     }
 }
 
+// Kept: `data_last` and `stuff_last` are two formulas, of which each divides by what the other does not: one function would hold both in a `match`.
 // The last place of the run of a data place: its residue falls by PLACES - c at each place.
 fn data_last(c: u64, j: u64) -> u64
     requires { Place c j × (is_data c j ≡ true) }

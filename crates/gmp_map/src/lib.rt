@@ -20,7 +20,8 @@ pub fn map(c: u64, f: u64, n: u64, groups: &[u8], window: &mut [u8]) -> Result<u
     ensures { Mapped c f n groups.now window.old (answered result) window.new }
 {
     let d = gmp_window::map_answer(c, f, n, groups, window.len())?;
-    fill_window(c, f, n, groups, window);
+    let places = Places { c, f, n };
+    places.fill_window(groups, window);
     Ok(d)
 }
 
@@ -29,7 +30,8 @@ pub fn unmap(c: u64, f: u64, n: u64, window: &[u8], groups: &mut [u8]) -> Result
     ensures { Unmapped c f n window.now groups.old (answered result) groups.new }
 {
     let d = gmp_window::unmap_answer(c, f, n, window.len(), groups.len())?;
-    fill_groups(c, f, n, window, groups);
+    let places = Places { c, f, n };
+    places.fill_groups(window, groups);
     Ok(d)
 }
 
@@ -68,64 +70,78 @@ fn fill_pair(s: &[u8], first: Option<usize>, second: Option<usize>, out: &mut [u
     }
 }
 
-// Places 2 p and 2 p + 1 of a window, counted from 0.
-fn fill_places(c: u64, f: u64, n: u64, p: usize, groups: &[u8], out: &mut [u8])
-    requires { Window c f n × (p < n / 2) × (length out.old ≡ pair_bytes) }
-    ensures { out.new ≡ tabulate pair_bytes (λ k. byte_of (window_bit c f groups.now) (pair_bytes * p + k)) }
-{
-    let m = 2 * (p as u64);
-    // A place is data where the count grows.
-    let x = gmp::data_in(c, f, m);
-    let y = gmp::data_in(c, f, m + 1);
-    let z = gmp::data_in(c, f, m + 2);
-    let first = (x < y).then_some(GROUP_BITS * (x as usize));
-    let second = (y < z).then_some(GROUP_BITS * (y as usize));
-    fill_pair(groups, first, second, out);
+// The n places from place f on of a count c, which are a window.
+#[derive(Clone, Copy)]
+struct Places {
+    c: u64,
+    f: u64,
+    n: u64,
+    ghost window: { Window c f n },
 }
 
-// All places of a window, two by two.
-fn fill_window(c: u64, f: u64, n: u64, groups: &[u8], window: &mut [u8])
-    requires { Window c f n × (length window.old ≡ window_bytes n) }
-    ensures { window.new ≡ pack (window_bytes n) (window_bit c f groups.now) }
-{
-    for p in 0..(n / 2) as usize {
-        let at = PAIR_BYTES * p;
-        fill_places(c, f, n, p, groups, &mut window[at..at + PAIR_BYTES]);
+impl Places {
+    // Places 2 p and 2 p + 1 of a window, counted from 0.
+    fn fill_places(self, p: usize, groups: &[u8], out: &mut [u8])
+        requires { (p < self.n / 2) × (length out.old ≡ pair_bytes) }
+        ensures { out.new ≡ tabulate pair_bytes (λ k. byte_of (window_bit self.c self.f groups.now) (pair_bytes * p + k)) }
+    {
+        let m = 2 * (p as u64);
+        // A place is data where the count grows.
+        let x = gmp::data_in(self.c, self.f, m);
+        let y = gmp::data_in(self.c, self.f, m + 1);
+        let z = gmp::data_in(self.c, self.f, m + 2);
+        let first = (x < y).then_some(GROUP_BITS * (x as usize));
+        let second = (y < z).then_some(GROUP_BITS * (y as usize));
+        fill_pair(groups, first, second, out);
     }
-}
 
-// Where data group q of a window with d of them stands: the first bit of its place, counted from place f; none where there is no such group.
-fn group_piece(c: u64, f: u64, n: u64, d: u64, q: u64) -> Option<usize>
-    requires { Window c f n × DataIn c f n d }
-    ensures { GroupAt c f n q result }
-{
-    if d <= q {
-        return None;
+    // All places of a window, two by two.
+    // Kept: an index, here and in `fill_groups`. With `chunks_exact_mut(PAIR_BYTES).enumerate()` no proof was found of what stands in the bytes that
+    // the iterator has passed: its invariant reaches only those that are left.
+    fn fill_window(self, groups: &[u8], window: &mut [u8])
+        requires { length window.old ≡ window_bytes self.n }
+        ensures { window.new ≡ pack (window_bytes self.n) (window_bit self.c self.f groups.now) }
+    {
+        for p in 0..(self.n / 2) as usize {
+            let at = PAIR_BYTES * p;
+            self.fill_places(p, groups, &mut window[at..at + PAIR_BYTES]);
+        }
     }
-    let place = (((f - 1) * c / PLACES + q + 1) * PLACES + (c - 1)) / c - f;
-    Some(GROUP_BITS * (place as usize))
-}
 
-// Groups 2 p and 2 p + 1 of a window with d of them.
-fn fill_two(c: u64, f: u64, n: u64, d: u64, p: usize, window: &[u8], out: &mut [u8])
-    requires { Window c f n × DataIn c f n d × (p ≤ places) × (length out.old ≤ pair_bytes) }
-    ensures { out.new ≡ tabulate (length out.old) (λ k. byte_of (groups_bit c f n window.now) (pair_bytes * p + k)) }
-{
-    let q = 2 * (p as u64);
-    let first = group_piece(c, f, n, d, q);
-    let second = group_piece(c, f, n, d, q + 1);
-    fill_pair(window, first, second, out);
-}
+    // Where data group q of a window with d of them stands: the first bit of its place, counted from place f; none where there is no such group.
+    fn group_piece(self, d: u64, q: u64) -> Option<usize>
+        requires { DataIn self.c self.f self.n d }
+        ensures { GroupAt self.c self.f self.n q result }
+    {
+        if d <= q {
+            return None;
+        }
+        let Places { c, f, .. } = self;
+        let place = (((f - 1) * c / PLACES + q + 1) * PLACES + (c - 1)) / c - f;
+        Some(GROUP_BITS * (place as usize))
+    }
 
-// All groups of a window, two by two. An odd one at the end has half a byte more than 128, and zeros behind it.
-fn fill_groups(c: u64, f: u64, n: u64, window: &[u8], groups: &mut [u8])
-    requires { Window c f n × (length groups.old ≡ group_bytes (data_from c f n)) }
-    ensures { groups.new ≡ pack (group_bytes (data_from c f n)) (groups_bit c f n window.now) }
-{
-    let d = gmp::data_in(c, f, n);
-    for p in 0..((d + 1) / 2) as usize {
-        let at = PAIR_BYTES * p;
-        let end = groups.len().min(at + PAIR_BYTES);
-        fill_two(c, f, n, d, p, window, &mut groups[at..end]);
+    // Groups 2 p and 2 p + 1 of a window with d of them.
+    fn fill_two(self, d: u64, p: usize, window: &[u8], out: &mut [u8])
+        requires { DataIn self.c self.f self.n d × (p ≤ places) × (length out.old ≤ pair_bytes) }
+        ensures { out.new ≡ tabulate (length out.old) (λ k. byte_of (groups_bit self.c self.f self.n window.now) (pair_bytes * p + k)) }
+    {
+        let q = 2 * (p as u64);
+        let first = self.group_piece(d, q);
+        let second = self.group_piece(d, q + 1);
+        fill_pair(window, first, second, out);
+    }
+
+    // All groups of a window, two by two. An odd one at the end has half a byte more than 128, and zeros behind it.
+    fn fill_groups(self, window: &[u8], groups: &mut [u8])
+        requires { length groups.old ≡ group_bytes (data_from self.c self.f self.n) }
+        ensures { groups.new ≡ pack (group_bytes (data_from self.c self.f self.n)) (groups_bit self.c self.f self.n window.now) }
+    {
+        let d = gmp::data_in(self.c, self.f, self.n);
+        for p in 0..((d + 1) / 2) as usize {
+            let at = PAIR_BYTES * p;
+            let end = groups.len().min(at + PAIR_BYTES);
+            self.fill_two(d, p, window, &mut groups[at..end]);
+        }
     }
 }

@@ -5,7 +5,7 @@ use gmp_count::Partial;
 use std::io;
 use std::io::{Read, Write};
 
-// A proved loop has to end, and nothing says that an input does, so the turns are counted up to a number that no run comes to.
+// Kept: the count to u64::MAX. A proved loop has to end, and nothing says that an input does, so the turns are counted up to a number that no run comes to.
 fn read_first<R: Read>(from: &mut R) -> io::Result<Partial> {
     let mut kept = Partial::start();
     let mut space = [0u8; 4096];

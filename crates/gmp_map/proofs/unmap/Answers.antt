@@ -11,10 +11,14 @@ pub returns-in_err-d : goal.returns-in_err-d
 returns-in_err-d c = let p = err_from_is_err_and c.from_residual.result c.from_residual.ensures.1 in
     rw (p.1, p.2) (meets_refused _ c.in_err-d.ensures (never_done _))
 
+pub invariant_of-places : goal.invariant_of-places
+invariant_of-places c = let a = c.args in
+    record { window = (unmap_taken a.c a.f a.n (length a.window.now) (length a.groups.now) c.in_ok-d.ensures refl).window }
+
 pub fill_groups-requires : goal.fill_groups-requires
 fill_groups-requires c = let a = c.args in
     let t = unmap_taken a.c a.f a.n (length a.window.now) (length a.groups.now) c.in_ok-d.ensures refl in
-    (t.window, t.groups_length)
+    t.groups_length
 
 pub returns : goal.returns
 returns c = meets_done _ c.in_ok-d.ensures refl c.fill_groups.ensures

@@ -1,11 +1,11 @@
--- `gmp_map::fill_window` meets its contract: two places a turn. Assumes nothing.
+-- `gmp_map::Places::fill_window` meets its contract: two places a turn. Assumes nothing.
 use Prim.Native.Nat.{◌+◌, ◌*◌}
 use native.Mathlib.Omega.{arith}
 use lib.ListN.{length-take, length-drop}
 use Rattle.prelude.proofs.Lists.{filled_none, filled_to, filled_all}
 use Rattle.sizes.specs.Sizes.{pair_bytes}
 use Rattle.gmp_map.proofs.Pairs.{pairs_filled}
-use Rattle.gmp_map.proofs.fill_window.Goals as goal
+use Rattle.gmp_map.proofs.Places.fill_window.Goals as goal
 
 pub loop-p-init : goal.loop-p-init
 loop-p-init c = (filled_none, omega arith)
@@ -26,7 +26,7 @@ pub slice_bounds-fill_places-end : goal.slice_bounds-fill_places-end
 slice_bounds-fill_places-end c = omega arith
 
 pub fill_places-requires : goal.fill_places-requires
-fill_places-requires c = (c.requires.0, omega arith, simp (length-take, length-drop) (omega arith))
+fill_places-requires c = (omega arith, simp (length-take, length-drop) (omega arith))
 
 pub overflow_step-p : goal.overflow_step-p
 overflow_step-p c = omega arith

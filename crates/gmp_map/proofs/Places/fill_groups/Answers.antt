@@ -1,4 +1,4 @@
--- `gmp_map::fill_groups` meets its contract: two groups a turn. Assumes nothing.
+-- `gmp_map::Places::fill_groups` meets its contract: two groups a turn. Assumes nothing.
 use Prim.Native.Nat.{◌-◌, ◌*◌}
 use mathlib.Core.Path.{◌≡◌}
 use native.Mathlib.Omega.{arith}
@@ -7,7 +7,7 @@ use Rattle.prelude.proofs.Lists.{filled_none, filled_to, filled_all}
 use Rattle.sizes.specs.Sizes.{pair_bytes}
 use Rattle.gmp_window.proofs.Judging.{data_window}
 use Rattle.gmp_map.proofs.Pairs.{pairs_filled}
-use Rattle.gmp_map.proofs.fill_groups.Goals as goal
+use Rattle.gmp_map.proofs.Places.fill_groups.Goals as goal
 
 pub overflow_add-p-end : goal.overflow_add-p-end
 overflow_add-p-end c = omega arith
@@ -25,16 +25,16 @@ pub min-end-requires : goal.min-end-requires
 min-end-requires c = omega arith
 
 pub slice_bounds-fill_two-count : goal.slice_bounds-fill_two-count
-slice_bounds-fill_two-count c = omega (arith, data_window _ _ _ c.requires.0)
+slice_bounds-fill_two-count c = omega (arith, data_window _ _ _ c.args.self.window)
 
 pub slice_bounds-fill_two-start : goal.slice_bounds-fill_two-start
-slice_bounds-fill_two-start c = omega (arith, data_window _ _ _ c.requires.0)
+slice_bounds-fill_two-start c = omega (arith, data_window _ _ _ c.args.self.window)
 
 pub slice_bounds-fill_two-end : goal.slice_bounds-fill_two-end
 slice_bounds-fill_two-end c = omega arith
 
 pub fill_two-requires : goal.fill_two-requires
-fill_two-requires c = (c.requires.0, c.data_in-d.ensures, omega arith, simp (length-take, length-drop) (omega arith))
+fill_two-requires c = (c.data_in-d.ensures, omega arith, simp (length-take, length-drop) (omega arith))
 
 pub overflow_step-p : goal.overflow_step-p
 overflow_step-p c = omega arith
@@ -45,7 +45,7 @@ loop-p-smaller c = omega arith
 pub loop-p-preserved : goal.loop-p-preserved
 loop-p-preserved c = let t = c.loop-p in
     let e = c.min-end.result in
-    let w = data_window _ _ _ c.requires.0 in
+    let w = data_window _ _ _ c.args.self.window in
     let at = pair_bytes * t.p in
     let l : length (take (e - at) (drop at t.groups)) ≡ e - at = simp (length-take, length-drop) (omega arith) in
     let before = filled_to at t.invariant.0 (omega arith) in
@@ -55,5 +55,5 @@ pub shape_of-groups : goal.shape_of-groups
 shape_of-groups c = omega arith
 
 pub returns : goal.returns
-returns c = let w = data_window _ _ _ c.requires.0 in
+returns c = let w = data_window _ _ _ c.args.self.window in
     filled_all _ c.loop-p.invariant.0 (omega arith) (omega arith)

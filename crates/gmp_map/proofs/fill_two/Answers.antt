@@ -1,8 +1,0 @@
--- `gmp_map::fill_two` meets its contract: the law `groups_pair`. Assumes nothing.
-use lib.ListN.{length}
-use Rattle.gmp_map.proofs.Filling.{groups_pair}
-use Rattle.gmp_map.proofs.fill_two.Goals as goal
-
-pub returns : goal.returns
-returns c = let a = c.args in
-    groups_pair a.c a.f a.n a.window.now a.p (length a.out.now) c.group_piece-first.ensures c.group_piece-second.ensures c.requires.3 c.fill_pair.ensures
