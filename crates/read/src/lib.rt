@@ -282,6 +282,8 @@ impl Reader<'_> {
     }
 
     // The information and the parity of all super frames, one after the other.
+    // Kept: here, in write_blocks and in received the parts are cut by index. Over chunks_exact_mut no invariant can name what was written to
+    // them (tried in code::Coder::write_groups), and an element's parts are of 14 and 15 bytes, which no chunks method cuts.
     fn write_frames(&self, buffer: &mut [u8], info: &mut [u8], parity: &mut [u8])
         requires { (length buffer.old ≡ super_bytes) × (length info.old ≡ info_length self.now.n)
             × (length parity.old ≡ parity_length self.now.n) }
@@ -386,6 +388,7 @@ fn is_crc_off(crcs: &[u32; 256], s: &[u8], b: usize) -> bool
 }
 
 // Whether a pad bit is not zero. The last of its bytes reaches past the end, where there are zeros.
+// Kept: a loop. Of `any` over the range the check knows only that some run of its closure answered so, and the contract was not proved.
 fn is_pad_off(s: &[u8]) -> bool
     requires { length s.now ≡ super_bytes }
     ensures { result ≡ pad_off s.now }
