@@ -388,17 +388,13 @@ fn is_crc_off(crcs: &[u32; 256], s: &[u8], b: usize) -> bool
 }
 
 // Whether a pad bit is not zero. The last of its bytes reaches past the end, where there are zeros.
-// Kept: a loop. Of `any` over the range the check knows only that some run of its closure answered so, and the contract was not proved.
 fn is_pad_off(s: &[u8]) -> bool
     requires { length s.now ≡ super_bytes }
     ensures { result ≡ pad_off s.now }
 {
-    for k in 0..PAD_BYTES {
-        if bits::byte_from(s, sizes::PAD_FROM + 8 * k) != 0 {
-            return true;
-        }
-    }
-    false
+    let mut pad = [0u8; PAD_BYTES];
+    bits_copy::copy(s, sizes::PAD_FROM, &mut pad);
+    pad != [0; PAD_BYTES]
 }
 
 // The information and the parity of a super frame, out of its bytes.
