@@ -163,6 +163,7 @@ impl Reader<'_> {
         }
         let received = line_order::word_in(self.capture, w);
         let r = self.repair(received, c);
+        // Kept: by number. Of `r.found == Found::Beyond` a proof here has no fact that it can open, and the contract was not proved.
         let is_beyond = r.found.number() == 4;
         WordTally {
             beyond: s.beyond.or(is_beyond.then_some(w as u64)),
@@ -359,7 +360,7 @@ fn long_from(s: &[u8], at: usize) -> u32
     ensures { result ≡ num 32 (bit_at s.now) at }
 {
     let w = bits_copy::word_from(s, at);
-    ((bits::wide(w[0]) * 256 + bits::wide(w[1])) * 256 + bits::wide(w[2])) * 256 + bits::wide(w[3])
+    u32::from_be_bytes([w[0], w[1], w[2], w[3]])
 }
 
 // Whether the MBAS of block b, which is block t of the capture, is another number than expected.
