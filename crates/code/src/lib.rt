@@ -126,6 +126,7 @@ struct Coder<'a> {
 
 impl Coder<'_> {
     // All words, a group of eight at a time.
+    // Kept: cut by index. Over chunks_exact_mut no invariant can name what was written to the parts, and the contract was not proved.
     fn write_groups(&self, capture: &mut [u8])
         requires { length capture.old ≡ capture_length self.now.n }
         ensures { capture.new ≡ capture_of self.now.n self.now.m0 self.now.info.now self.now.parity.now }

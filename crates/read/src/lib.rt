@@ -163,6 +163,7 @@ impl Reader<'_> {
         }
         let received = line_order::word_in(self.capture, w);
         let r = self.repair(received, c);
+        // Kept: by number. Of `r.found == Found::Beyond` a proof here has no fact that it can open, and the contract was not proved.
         let is_beyond = r.found.number() == 4;
         WordTally {
             beyond: s.beyond.or(is_beyond.then_some(w as u64)),
@@ -282,6 +283,8 @@ impl Reader<'_> {
     }
 
     // The information and the parity of all super frames, one after the other.
+    // Kept: here, in write_blocks and in received the parts are cut by index. Over chunks_exact_mut no invariant can name what was written to
+    // them (tried in code::Coder::write_groups), and an element's parts are of 14 and 15 bytes, which no chunks method cuts.
     fn write_frames(&self, buffer: &mut [u8], info: &mut [u8], parity: &mut [u8])
         requires { (length buffer.old ≡ super_bytes) × (length info.old ≡ info_length self.now.n)
             × (length parity.old ≡ parity_length self.now.n) }
@@ -357,7 +360,7 @@ fn long_from(s: &[u8], at: usize) -> u32
     ensures { result ≡ num 32 (bit_at s.now) at }
 {
     let w = bits_copy::word_from(s, at);
-    ((bits::wide(w[0]) * 256 + bits::wide(w[1])) * 256 + bits::wide(w[2])) * 256 + bits::wide(w[3])
+    u32::from_be_bytes([w[0], w[1], w[2], w[3]])
 }
 
 // Whether the MBAS of block b, which is block t of the capture, is another number than expected.
@@ -390,12 +393,9 @@ fn is_pad_off(s: &[u8]) -> bool
     requires { length s.now ≡ super_bytes }
     ensures { result ≡ pad_off s.now }
 {
-    for k in 0..PAD_BYTES {
-        if bits::byte_from(s, sizes::PAD_FROM + 8 * k) != 0 {
-            return true;
-        }
-    }
-    false
+    let mut pad = [0u8; PAD_BYTES];
+    bits_copy::copy(s, sizes::PAD_FROM, &mut pad);
+    pad != [0; PAD_BYTES]
 }
 
 // The information and the parity of a super frame, out of its bytes.

@@ -1,28 +1,29 @@
 -- The tests of FEC blocks and pad: by the bytes of a super frame they are those of the capture, and five blocks more. Assumes nothing.
 use Prim.Native.Nat.{ℕ, zero, suc, ◌+◌, ◌*◌, ◌/◌, ◌%◌, ◌≤◌, ◌<◌}
 use Rattle.std.specs.Prelude.{Option, None}
-use mathlib.Core.Bool.{Bool, true, false, not}
+use mathlib.Core.Bool.{Bool, true, false, not, true≢false}
 use mathlib.Core.Path.{◌≡◌, refl, sym, ap, ap₂, ◌∙◌}
 use mathlib.Core.List.{List}
 use native.Mathlib.Nat.{zero-div}
 use native.Mathlib.Omega.{arith}
 use borrow.Author.Tests.{eq-eqb, ne_eqb, eqb-true, not-false}
 use lib.Dec.{eqb}
-use lib.ListN.{length}
+use lib.ListN.{length, get_or}
 use Rattle.prelude.specs.Lists.{from_index}
-use Rattle.bits.specs.Bits.{num, digit, bit_at, Bits}
+use Rattle.bits.specs.Bits.{num, digit, bit_at, byte_of, pack, Bits}
 use Rattle.prelude.specs.Loops.{upto, first}
 use Rattle.prelude.proofs.Common.{by_bound}
+use Rattle.prelude.proofs.Lists.{get_d_tabulate}
 use Rattle.bits.proofs.Numbers.{num_ext, num-zero, digit-num}
-use Rattle.bits.proofs.Packing.{bit_of_lt, bit_of_past}
+use Rattle.bits.proofs.Packing.{bit_of_lt, bit_of_past, length-packs}
 use Rattle.crc.proofs.Changes.{crc_ext}
 use Rattle.sizes.specs.Sizes.{info_bits, crc_bits, mbas_bits, mbas_from, fec_bits, fec_blocks, pad_from, pad_bits, super_bytes}
 use Rattle.line.specs.Fec.{mbas_of}
 use Rattle.line.specs.Words.{super_in, fec_in}
-use Rattle.read_spec.specs.Read.{repaired, mbas_differs, crc_differs, pad_differs}
+use Rattle.read_spec.specs.Read.{repaired, all_zero, mbas_differs, crc_differs, pad_differs}
 use Rattle.read_spec.specs.Steps.{first_found, sought_of, frame_of, mbas_off, crc_off, pad_off, block_taken, frames_to}
 use Rattle.read_spec.specs.declared.BlockTally.{BlockTally}
-use Rattle.read_spec.proofs.Searching.{first_more}
+use Rattle.read_spec.proofs.Searching.{first_more, zero_all, zero_each}
 use Rattle.read_spec.proofs.Places.{frame_bit, frame_fec}
 
 -- ---- by the bytes of a super frame
@@ -128,3 +129,27 @@ pad_zero s h = rw (eq-eqb (num pad_bits (bit_at s) pad_from) 0 (num-zero pad_bit
       where
         byte : (k : ℕ) → k < 90 → num 8 (bit_at s) (pad_from + 8 * k) ≡ 0
         byte k m = eqb-true (num 8 (bit_at s) (pad_from + 8 * k)) 0 (not-false (eqb (num 8 (bit_at s) (pad_from + 8 * k)) 0) (h k m))
+
+zero_is : (x : ℕ) → ((x ≡ 0 → ⊥) → ⊥) → x ≡ 0
+zero_is zero n = refl
+zero_is (suc x) n = absurd (n (λ e. absurd (omega (arith, e))))
+
+-- the pad's bytes, copied out: it is not zero where one of them is not
+pub pad_copied : (s bytes : List ℕ) → length s ≡ super_bytes → bytes ≡ pack 90 (from_index (bit_at s) pad_from) → not (all_zero bytes) ≡ pad_off s
+pad_copied s bytes len e = by (all_zero bytes) refl (pad_off s) refl
+  where
+    at : (k : ℕ) → k < 90 → get_or bytes k 0 ≡ num 8 (bit_at s) (pad_from + 8 * k)
+    at k h = ap (λ (l : List ℕ). get_or l k 0) e ∙ get_d_tabulate 0 90 (byte_of (from_index (bit_at s) pad_from)) k h
+        ∙ num_ext 8 (from_index (bit_at s) pad_from) (bit_at s) (8 * k) (pad_from + 8 * k) (λ j l. ap (bit_at s) (omega arith))
+
+    long : length bytes ≡ 90
+    long = ap length e ∙ length-packs 8 90 (from_index (bit_at s) pad_from)
+
+    none : pad_off s ≡ false → (k : ℕ) → k < length bytes → get_or bytes k 0 ≡ 0
+    none q k h = zero_is (get_or bytes k 0)
+        (λ n. true≢false (pad_here s k (get_or bytes k 0) len (omega (arith, long)) (at k (omega (arith, long))) n ∙ q))
+
+    by : (z : Bool) → all_zero bytes ≡ z → (p : Bool) → pad_off s ≡ p → not z ≡ p
+    by true z p q = pad_zero s (λ k h. pad_byte_law s k (get_or bytes k 0) (at k h) (zero_each bytes z k)) ∙ q
+    by false z true q = refl
+    by false z false q = absurd (true≢false (zero_all bytes (none q) ∙ z))

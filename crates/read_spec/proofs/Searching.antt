@@ -8,13 +8,13 @@ use mathlib.Core.Path.{◌≡◌, refl, sym, ap, ◌∙◌}
 use mathlib.Core.List.{List, [], ◌∷◌}
 use native.Mathlib.Nat.{add-zero}
 use native.Mathlib.Omega.{arith}
-use borrow.Author.Tests.{lt-ltb, le-ltb}
+use borrow.Author.Tests.{lt-ltb, le-ltb, eq-eqb, eqb-true}
 use mir.Val.{bool_byte}
 use lib.Dec.{eqb}
-use lib.ListN.{length, replicate}
+use lib.ListN.{length, get_or, replicate}
 use lib.Pointwise.{pointwise}
 use Rattle.prelude.specs.Loops.{first, count}
-use Rattle.prelude.proofs.Common.{by_bound}
+use Rattle.prelude.proofs.Common.{by_bound, and_left, and_right}
 use Rattle.prelude.proofs.LoopLaws.{First, first_holds, first_is, first_none}
 use Rattle.prelude.proofs.Counting.{count_more, count_le}
 use Rattle.hamming.specs.declared.Repaired.{Repaired}
@@ -158,3 +158,15 @@ zero_equal zero [] h = refl
 zero_equal (suc n) (x ∷ s) h = ap (λ (b : Bool). eqb x 0 && b) (zero_equal n s (omega (arith, h)))
 zero_equal zero (x ∷ s) h = absurd (omega (arith, h))
 zero_equal (suc n) [] h = absurd (omega (arith, h))
+
+pub zero_all : (s : List ℕ) → ((k : ℕ) → k < length s → get_or s k 0 ≡ 0) → true ≡ all_zero s
+unfolding all_zero
+zero_all [] h = refl
+zero_all (x ∷ s) h =
+    rw (eq-eqb x 0 (h 0 (omega arith))) (zero_all s (λ k l. h (suc k) (omega arith)))
+
+pub zero_each : (s : List ℕ) → all_zero s ≡ true → (k : ℕ) → get_or s k 0 ≡ 0
+unfolding all_zero
+zero_each [] h k = refl
+zero_each (x ∷ s) h zero = eqb-true x 0 (and_left (eqb x 0) (all_zero s) h)
+zero_each (x ∷ s) h (suc k) = zero_each s (and_right (eqb x 0) (all_zero s) h) k
