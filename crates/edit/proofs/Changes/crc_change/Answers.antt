@@ -53,7 +53,8 @@ returns c = let h = c.loop-m in
     let a = c.args in
     let b = a.self.now.block.number in
     let e : h.m ≡ end_of b = omega (arith, h.invariant.1, c.loop-m-test.false, c.own_elements-own.ensures.end) in
-    (rw c.own_elements-own.ensures.end at c.shifted.ensures)
+    c.shifted.ensures
+    ∙ ap (λ (x : ℕ). crc_shift_n (info_bits - element_bits * x) h.r) c.own_elements-own.ensures.end
     ∙ ap (crc_shift_n (info_bits - element_bits * end_of b))
     (h.invariant.2 ∙ ap (λ (x : ℕ). crc_rem (changes b a.self.now.bits.now a.capture.now) (element_bits * (x - first_of b))) e)
     ∙ crc_changes b a.self.now.bits.now (fec_in (word_in a.capture.now) (fec_of b)) (element_bits * first_of b) (element_bits * (end_of b - first_of b))
