@@ -77,6 +77,7 @@ pub fn code_flip_read(
 }
 
 // Flips the named bits, word by word.
+// Kept: a loop over numbers. The words of a capture are interleaved: one is taken and put by its number, from no slice.
 fn flip_bits(flips: &[u8], capture: &mut [u8])
     ensures { capture.new ≡ flipped_bytes flips.now capture.old }
 {

@@ -324,6 +324,7 @@ impl Changes<'_> {
         c
     }
 
+    // Kept: loops over numbers here and in `crc_change`. The words of a capture are interleaved: one is taken and put by its number, from no slice.
     // The words of a stretch in their order, where `listed` words are listed before them. Returns how many are then.
     fn rewrite(
         &self,
@@ -352,6 +353,7 @@ fn local_number(e: usize) -> usize
 }
 
 // The remainder r takes in the 119 bits of an element.
+// Kept: a loop over numbers. A bit is found by its number, and there is no slice of them; a fold over 0..119 would call `crc::take` on the same two.
 fn take_element(r: u32, v: [u8; 16]) -> u32
     ensures { result ≡ rem_from width poly r (bit_at v) element_bits }
 {
