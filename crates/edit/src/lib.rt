@@ -310,12 +310,21 @@ impl Changes<'_> {
 
     // ---- the pass
 
+    // `block` is the client block again, by value: where its words are is then computed once for a stretch.
     // Word w, if it is listed, is made anew and becomes entry c of the list. Returns how many are listed now.
-    fn pass_word(&self, crc: u32, w: usize, c: usize, capture: &mut [u8], list: &mut [u64]) -> usize
-        requires { (w < words self.now.block.frames) × (length capture.old ≡ capture_length self.now.block.frames) × (c < length list.old) }
+    fn pass_word(
+        &self,
+        block: Block,
+        crc: u32,
+        w: usize,
+        c: usize,
+        capture: &mut [u8],
+        list: &mut [u64],
+    ) -> usize
+        requires { (block ≡ self.now.block) × (w < words self.now.block.frames) × (length capture.old ≡ capture_length self.now.block.frames) × (c < length list.old) }
         ensures { WordPassed self.now.block.frames self.now.block.number self.now.bits.now self.now.parity.now crc w c capture.old list.old capture.new list.new result }
     {
-        if self.block.is_listed(w) {
+        if block.is_listed(w) {
             let v = self.new_word(crc, capture, w);
             line_order::put_word(capture, w, v);
             list[c] = w as u64;
@@ -337,9 +346,10 @@ impl Changes<'_> {
         requires { (stretch.start ≤ stretch.end) × (stretch.end ≤ words self.now.block.frames) × Begun self.now.block.frames self.now.block.number self.now.bits.now self.now.parity.now crc stretch.start capture.old list.old listed }
         ensures { PassedOn self.now.block.frames self.now.block.number self.now.bits.now self.now.parity.now crc stretch.start stretch.end capture.old list.old listed capture.new list.new result }
     {
+        let block = self.block;
         let mut c = listed;
         for w in stretch.start..stretch.end {
-            c = self.pass_word(crc, w, c, capture, list);
+            c = self.pass_word(block, crc, w, c, capture, list);
         }
         c
     }

@@ -1,5 +1,5 @@
 -- `Changes::rewrite` meets its contract: a word a turn. Assumes nothing.
-use mathlib.Core.Path.{◌≡◌}
+use mathlib.Core.Path.{◌≡◌, refl}
 use native.Mathlib.Omega.{arith}
 use Rattle.edit_spec.proofs.Passes.{passing_long, passing_entries, passing_few, passing_word}
 use Rattle.edit.proofs.Changes.rewrite.Goals as goal
@@ -12,6 +12,7 @@ pass_word-c-requires c = let s = c.args.self.now in
     let b = s.block in
     let r = c.requires.2 in
     let p = c.loop-w.invariant.0.on r.cap₀ r.list₀ r.list_long r.change r.passing in (
+      refl,
       omega (arith, c.loop-w-test.true, c.requires.1),
       passing_long b.frames b.number s.bits.now s.parity.now r.cap₀ r.list₀ p,
       omega (
