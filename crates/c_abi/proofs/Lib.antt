@@ -1,3 +1,2 @@
--- The law of `c_abi`, and that each contract has one answer.
-pub mod Hosting
+-- That each contract has one answer.
 pub mod Unique

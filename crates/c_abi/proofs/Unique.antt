@@ -5,6 +5,7 @@ use Prim.Native.Nat.{ℕ}
 use mathlib.Core.List.{List}
 use Rattle.prelude.proofs.Common.{only}
 use Rattle.answer.proofs.Meets.{only_outcome}
+use Rattle.c_abi.proofs.HostRunFromResultRunRefused.from.Reads as from
 use Rattle.c_abi.proofs.zr400_run.Reads as run
 use Rattle.c_abi.proofs.zr400_runs.Reads as runs
 use Rattle.c_abi.proofs.zr400_map.Reads as map
@@ -15,6 +16,9 @@ use Rattle.c_abi.proofs.zr400_read.Reads as read
 use Rattle.c_abi.proofs.zr400_edit.Reads as edit
 use Rattle.c_abi.proofs.zr400_archive_write.Reads as archive-write
 use Rattle.c_abi.proofs.zr400_archive_read.Reads as archive-read
+
+pub one_from : (κs : _) (a : _) (x y : _) (s t : _) → from.Post κs a x s → from.Post κs a y t → x ≡ y
+one_from κs a x y s t p q = only p q
 
 pub one_zr400_run : (κs : _) (a : _) (x y : _) (s t : _) → run.Post κs a x s → run.Post κs a y t → x ≡ y
 one_zr400_run κs a x y s t p q = only p q

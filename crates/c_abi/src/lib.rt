@@ -4,7 +4,7 @@
 ghost use Rattle.std.specs.Prelude.{◌≡◌, length};
 ghost use Rattle.answer.specs.Outcomes.{Outcome};
 ghost use Rattle.gmp.specs.Places.{kind_number};
-ghost use Rattle.gmp.specs.Answers.{run_of, runs_of};
+ghost use Rattle.gmp.specs.Answers.{told, run_of, runs_of};
 ghost use Rattle.gmp_map.specs.Groups.{Mapped, Unmapped};
 ghost use Rattle.code.specs.Code.{code_answer, code_leaves};
 ghost use Rattle.read_spec.specs.Read.{read_answer, read_leaves};
@@ -14,8 +14,8 @@ ghost use Rattle.archive_spec.specs.Write.{write_answer, write_leaves};
 ghost use Rattle.archive_spec.specs.Read.{open_answer, open_leaves};
 ghost use Rattle.c_abi.specs.Hosts.{hosted};
 
-use answer::Answer;
-use gmp::Kind;
+use answer::{Answer, Refused};
+use gmp::{Kind, Run};
 
 // A run as C is handed it: the kind is a number, 0 for stuff and 1 for data.
 #[repr(C)]
@@ -26,18 +26,32 @@ pub struct HostRun {
     pub last: u64,
 }
 
+impl From<Result<Run, Refused>> for HostRun {
+    ghost from_gives = { λ asked run. run ≡ hosted (told asked) };
+
+    // A refused request gives kind stuff and last place 0.
+    fn from(asked: Result<Run, Refused>) -> HostRun {
+        match asked {
+            Ok(run) => HostRun {
+                number: 0,
+                kind: kind_number(run.kind),
+                last: run.last,
+            },
+            Err(refused) => HostRun {
+                number: refused.refusal.number(),
+                kind: kind_number(Kind::Stuff),
+                last: 0,
+            },
+        }
+    }
+}
+
 // The kind of place j and the last place of its run.
 #[unsafe(no_mangle)]
 pub extern "C" fn zr400_run(c: u64, j: u64) -> HostRun
     ensures { result ≡ hosted (run_of c j) }
 {
-    let run = gmp::run(c, j);
-    let kind = run.kind;
-    HostRun {
-        number: run.number,
-        kind: kind_number(kind),
-        last: run.last,
-    }
+    gmp::run(c, j).into()
 }
 
 // How many runs there are from place j on.
@@ -45,7 +59,7 @@ pub extern "C" fn zr400_run(c: u64, j: u64) -> HostRun
 pub extern "C" fn zr400_runs(c: u64, j: u64) -> Answer
     ensures { result ≡ runs_of c j }
 {
-    gmp::runs(c, j)
+    gmp::runs(c, j).into()
 }
 
 // Writes the data groups into their places of a window, and zeros into stuff.
@@ -53,7 +67,7 @@ pub extern "C" fn zr400_runs(c: u64, j: u64) -> Answer
 pub extern "C" fn zr400_map(c: u64, f: u64, n: u64, groups: &[u8], window: &mut [u8]) -> Answer
     ensures { Mapped c f n groups.now window.old result window.new }
 {
-    gmp_map::map(c, f, n, groups, window)
+    gmp_map::map(c, f, n, groups, window).into()
 }
 
 // Gives the data groups of a window back.
@@ -61,7 +75,7 @@ pub extern "C" fn zr400_map(c: u64, f: u64, n: u64, groups: &[u8], window: &mut 
 pub extern "C" fn zr400_unmap(c: u64, f: u64, n: u64, window: &[u8], groups: &mut [u8]) -> Answer
     ensures { Unmapped c f n window.now groups.old result groups.new }
 {
-    gmp_map::unmap(c, f, n, window, groups)
+    gmp_map::unmap(c, f, n, window, groups).into()
 }
 
 // Whether the information of FEC block t may be asked for. C finds the part itself at 30,583 bytes times t.
@@ -69,7 +83,7 @@ pub extern "C" fn zr400_unmap(c: u64, f: u64, n: u64, window: &[u8], groups: &mu
 pub extern "C" fn zr400_information(n: u64, t: u64, info: &[u8]) -> Answer
     ensures { result ≡ part_answer n t info.now }
 {
-    capture::information_answer(n, t, info)
+    capture::information_answer(n, t, info).into()
 }
 
 // Codes n super frames whose FEC blocks count from m0 on.
@@ -84,7 +98,7 @@ pub extern "C" fn zr400_code(
     ensures { Outcome (code_answer n m0 info.now parity.now capture.old)
         (code_leaves n m0 info.now parity.now capture.old) result capture.new }
 {
-    capture::code(n, m0, info, parity, capture)
+    capture::code(n, m0, info, parity, capture).into()
 }
 
 // Reads n super frames back.
@@ -99,7 +113,7 @@ pub extern "C" fn zr400_read(
     ensures { Outcome (read_answer n m0 capture.now info.old parity.old)
         (read_leaves n m0 capture.now info.old parity.old) result (info.new, parity.new) }
 {
-    capture::read(n, m0, capture, info, parity)
+    capture::read(n, m0, capture, info, parity).into()
 }
 
 // Replaces a client block and the parity of its FEC block, and lists the words it wrote.
@@ -115,7 +129,7 @@ pub extern "C" fn zr400_edit(
     ensures { Outcome (edit_answer n block bits.now parity.now capture.old list.old)
         (edit_leaves n block bits.now parity.now capture.old list.old) result (capture.new, list.new) }
 {
-    capture::edit(n, block, bits, parity, capture, list)
+    capture::edit(n, block, bits, parity, capture, list).into()
 }
 
 // Makes the head of a capture file whose bodies have these kinds and lengths.
@@ -129,7 +143,7 @@ pub extern "C" fn zr400_archive_write(
     ensures { Outcome (write_answer count kinds.now lengths.now (length head.old))
         (write_leaves count kinds.now lengths.now head.old) result head.new }
 {
-    archive::write(count, kinds, lengths, head)
+    archive::write(count, kinds, lengths, head).into()
 }
 
 // Opens the capture file of `size` bytes that begins with `first`, and lists its table.
@@ -146,7 +160,7 @@ pub extern "C" fn zr400_archive_read(
         (open_leaves size first.now kinds.old offsets.old lengths.old) result
         (kinds.new, (offsets.new, lengths.new)) }
 {
-    archive::read(size, first, kinds, offsets, lengths)
+    archive::read(size, first, kinds, offsets, lengths).into()
 }
 
 // The document's number for a kind.

@@ -4,6 +4,7 @@
 
 ghost use Rattle.std.specs.Prelude.{◌≡◌, List, ℕ, length};
 ghost use Rattle.answer.specs.Outcomes.{Outcome};
+ghost use Rattle.answer.specs.Refusals.{answered};
 ghost use Rattle.answer.specs.Demand1.{Demand1};
 ghost use Rattle.prelude.specs.Loops.{count};
 ghost use Rattle.sizes.specs.Sizes.{words};
@@ -15,20 +16,26 @@ ghost use Rattle.demand_laws.specs.Demand2.{flip_if};
 ghost use Rattle.demands.specs.Demands.{flips_of, CodesAndReads, CodesAndEdits};
 ghost use Rattle.demands.specs.Steps.{flipped_bytes};
 
-use answer::Answer;
+use answer::Refused;
 
 // Demand 1 of coding.
-pub fn code(n: u64, m0: u64, info: &[u8], parity: &[u8], capture: &mut [u8]) -> Answer
+pub fn code(n: u64, m0: u64, info: &[u8], parity: &[u8], capture: &mut [u8]) -> Result<u64, Refused>
     ensures { Demand1 (code_rows n m0 (length info.now) (length parity.now) (length capture.old)) (words n)
-        (capture_of n m0 info.now parity.now) capture.old result capture.new }
+        (capture_of n m0 info.now parity.now) capture.old (answered result) capture.new }
 {
     capture::code(n, m0, info, parity, capture)
 }
 
 // Demand 1 of reading.
-pub fn read(n: u64, m0: u64, capture: &[u8], info: &mut [u8], parity: &mut [u8]) -> Answer
+pub fn read(
+    n: u64,
+    m0: u64,
+    capture: &[u8],
+    info: &mut [u8],
+    parity: &mut [u8],
+) -> Result<u64, Refused>
     ensures { Demand1 {B = List ℕ × List ℕ} (read_rows n m0 capture.now info.old parity.old)
-        (count (is_seen capture.now) (words n)) (given n capture.now) (info.old, parity.old) result
+        (count (is_seen capture.now) (words n)) (given n capture.now) (info.old, parity.old) (answered result)
         (info.new, parity.new) }
 {
     capture::read(n, m0, capture, info, parity)
@@ -42,10 +49,10 @@ pub fn edit(
     parity: &[u8],
     capture: &mut [u8],
     list: &mut [u64],
-) -> Answer
+) -> Result<u64, Refused>
     ensures { Demand1 {B = List ℕ × List ℕ} (edit_rows n block bits.now parity.now capture.old list.old)
         (count (listed n block) (words n)) (edited n block bits.now parity.now capture.old list.old)
-        (capture.old, list.old) result (capture.new, list.new) }
+        (capture.old, list.old) (answered result) (capture.new, list.new) }
 {
     capture::edit(n, block, bits, parity, capture, list)
 }
@@ -60,19 +67,17 @@ pub fn code_flip_read(
     capture: &mut [u8],
     back: &mut [u8],
     parity_back: &mut [u8],
-) -> Answer
+) -> Result<u64, Refused>
     ensures { CodesAndReads n m0 info.now parity.now flips.now capture.old back.old
-        parity_back.old result (capture.new, (back.new, parity_back.new)) }
+        parity_back.old (answered result) (capture.new, (back.new, parity_back.new)) }
 {
-    let coded = capture::code(n, m0, info, parity, capture);
-    if coded.number != 0 {
-        return coded;
-    }
+    let _ = capture::code(n, m0, info, parity, capture)?;
     flip_bits(flips, capture);
     capture::read(n, m0, capture, back, parity_back)
 }
 
 // Flips the named bits, word by word.
+// Kept: a loop over numbers. The words of a capture are interleaved: one is taken and put by its number, from no slice.
 fn flip_bits(flips: &[u8], capture: &mut [u8])
     ensures { capture.new ≡ flipped_bytes flips.now capture.old }
 {
@@ -83,24 +88,20 @@ fn flip_bits(flips: &[u8], capture: &mut [u8])
 }
 
 // The word v with its bit p flipped, if it has one.
-fn flip_word(v: [u8; 16], p: usize) -> [u8; 16]
+fn flip_word(mut v: [u8; 16], p: usize) -> [u8; 16]
     ensures { result ≡ flip_if v p }
 {
-    let mut r = v;
     if p < sizes::WORD_BITS {
-        r[p / 8] = v[p / 8] ^ (128 >> (p % 8));
+        v[p / 8] ^= 128 >> (p % 8);
     }
-    r
+    v
 }
 
 // The bit that is flipped in word w, or none.
 fn flip_of(flips: &[u8], w: usize) -> usize
     ensures { result ≡ flips_of flips.now w }
 {
-    if w < flips.len() {
-        return bits::wide(flips[w]) as usize;
-    }
-    sizes::WORD_BITS
+    flips.get(w).map_or(sizes::WORD_BITS, |p| usize::from(*p))
 }
 
 // Demand 3: codes, and edits one client block with its FEC block's parity.
@@ -114,14 +115,11 @@ pub fn code_edit(
     new_parity: &[u8],
     capture: &mut [u8],
     list: &mut [u64],
-) -> Answer
+) -> Result<u64, Refused>
     ensures { CodesAndEdits n m0 block info.now parity.now bits.now new_parity.now capture.old
-        list.old result (capture.new, list.new) }
+        list.old (answered result) (capture.new, list.new) }
 {
-    let coded = capture::code(n, m0, info, parity, capture);
-    if coded.number != 0 {
-        return coded;
-    }
+    let _ = capture::code(n, m0, info, parity, capture)?;
     capture::edit(n, block, bits, new_parity, capture, list)
 }
 
@@ -133,13 +131,10 @@ pub fn map_unmap(
     groups: &[u8],
     window: &mut [u8],
     back: &mut [u8],
-) -> Answer
+) -> Result<u64, Refused>
     ensures { Outcome {B = List ℕ × List ℕ} (map_unmap_answer c f n groups.now window.old back.old)
-        (map_unmap_leaves c f n groups.now window.old back.old) result (window.new, back.new) }
+        (map_unmap_leaves c f n groups.now window.old back.old) (answered result) (window.new, back.new) }
 {
-    let mapped = gmp_map::map(c, f, n, groups, window);
-    if mapped.number != 0 {
-        return mapped;
-    }
+    let _ = gmp_map::map(c, f, n, groups, window)?;
     gmp_map::unmap(c, f, n, window, back)
 }

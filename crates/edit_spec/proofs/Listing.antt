@@ -7,9 +7,14 @@ use mathlib.Core.Logic.{◌⊎◌, inl, inr, ⊎_elim}
 use native.Mathlib.Decide.{dec_lt}
 use native.Mathlib.Nat.{lt_irrefl}
 use native.Mathlib.Omega.{arith}
-use borrow.Author.Tests.{leb-false, eqb-true, eq-eqb, lt-ltb, le-ltb, lt-leb, not-true}
-use lib.Dec.{ltb, eqb}
+use borrow.Author.Tests.{leb-true, ltb-true, le-leb, leb-false, eqb-true, eq-eqb, lt-ltb, le-ltb, lt-leb, not-true}
+use lib.Dec.{ltb, leb, eqb}
+use Rattle.std.specs.Prelude.{Option, Some, None}
+use Rattle.std.specs.Ordering.{nat_cmp, is_le, is_lt}
+use Rattle.std.proofs.Common.{Less, Equal, Greater}
+use Rattle.std.specs.Cmp.{nat_cmp_is}
 use Rattle.prelude.specs.Loops.{count}
+use Rattle.prelude.proofs.LoopLaws.{first_is, first_none}
 use Rattle.prelude.proofs.Common.{clash, and_left, and_right, by_bound}
 use Rattle.hamming.specs.Code.{checks_of}
 use Rattle.line_order.specs.Order.{word_in}
@@ -18,7 +23,7 @@ use Rattle.line.specs.Slots.{slot_of, delay, element_in, holds}
 use Rattle.line.proofs.SlotLaws.{held}
 use Rattle.edit_spec.specs.Edit.{fec_of, block_from, element_fec, element_local, is_pad, touches, listed, fails}
 use Rattle.edit_spec.specs.Listed.{Holding}
-use Rattle.edit_spec.specs.Steps.{first_element, stretch_from, stretch_to, InTail, InBlock, Between}
+use Rattle.edit_spec.specs.Steps.{first_found, FirstIn, first_element, stretch_from, stretch_to, InTail, InBlock, Between, OwnWords}
 use Rattle.edit_spec.proofs.Touching.{touches_at, touches_some, element_tail, element_block, element_before, element_past}
 use Rattle.edit_spec.proofs.Picking.{In, count_few}
 
@@ -196,6 +201,43 @@ listed_none N b w n = by (listed N b w) refl
         (n (element_local e) (local_lt e) (element_is b e l.no_pad l.block)))
     by false h = sym h
 
+-- the two ranges of elements, as code asks them
+le_cmp : (a b : ℕ) → is_le (nat_cmp a b) ≡ leb a b
+le_cmp a b =
+    by_bound b a (λ l. rw (← nat_cmp_is a b Less l, le-leb a b (omega arith)))
+    (λ l. by_bound a b (λ m. rw (← nat_cmp_is a b Greater m, lt-leb a b m)) (λ m. rw (← nat_cmp_is a b Equal (omega arith), le-leb a b m)))
+
+lt_cmp : (a b : ℕ) → is_lt (nat_cmp a b) ≡ ltb a b
+lt_cmp a b =
+    by_bound b a (λ l. rw (← nat_cmp_is a b Less l, lt-ltb a b l))
+    (λ l. by_bound a b (λ m. rw (← nat_cmp_is a b Greater m, le-ltb a b l)) (λ m. rw (← nat_cmp_is a b Equal (omega arith), le-ltb a b l)))
+
+in_range : (a z e : ℕ) {t : Bool} → t ≡ (is_le (nat_cmp a e) && is_lt (nat_cmp e z)) → (t ≡ true → (a ≤ e) × (e < z)) × (t ≡ false → a ≤ e → z ≤ e)
+in_range a z e {t} p = (λ h. (leb-true a e (and_left (leb a e) (ltb e z) (sym q ∙ h)), ltb-true e z (and_right (leb a e) (ltb e z) (sym q ∙ h))), out)
+  where
+    q : t ≡ (leb a e && ltb e z)
+    q = p ∙ rw (le_cmp a e, lt_cmp e z)
+
+    out : t ≡ false → a ≤ e → z ≤ e
+    out h l = by_bound z e (λ m. absurd (clash (q ∙ rw (le-leb a e l, lt-ltb e z m)) h)) (λ m. m)
+
+pub tail_test : (b e : ℕ) {f : ℕ} {t : Bool} → f ≡ first_element b → t ≡ (is_le (nat_cmp (f + info_elements) e) && is_lt (nat_cmp e (f + fec_elements))) → InTail b e t
+tail_test b e {f} p q =
+    let r = in_range (f + info_elements) (f + fec_elements) e q in
+    record {
+      yes = λ h. let y = r.0 h in (omega (arith, p, y.0), omega (arith, p, y.1));
+      no = λ h l. let z = r.1 h (omega (arith, p, l)) in omega (arith, p, z);
+    }
+
+pub block_test : (b e : ℕ) {f x y : ℕ} {t : Bool} → f ≡ first_element b → x ≡ block_from b / element_bits
+    → y ≡ (block_from b + (block_bits - 1)) / element_bits + 1 → t ≡ (is_le (nat_cmp (f + x) e) && is_lt (nat_cmp e (f + y))) → InBlock b e t
+block_test b e {f} {x} {y} p i j q =
+    let r = in_range (f + x) (f + y) e q in
+    record {
+      yes = λ h. let k = r.0 h in (omega (arith, p, i, k.0), omega (arith, p, j, k.1));
+      no = λ h l. let z = r.1 h (omega (arith, p, i, l)) in omega (arith, p, j, z);
+    }
+
 -- how code tests it, by the number of the element
 module _ (N b w e : ℕ) (q : e ≡ element_in w) where
   pub listed_tail : {t : Bool} → InTail b e t → t ≡ true → holds N w ≡ listed N b w
@@ -275,3 +317,36 @@ fails_outside N b cap w n = sym (fails_unlisted N b cap w (listed_outside N b w 
 
 pub stretch_within : (N b : ℕ) → b < blocks_of N → stretch_to b ≤ words N
 stretch_within N b h = omega arith
+
+-- the first word that fails, of the two stretches that are searched one after the other
+module _ (N b : ℕ) (cap : List ℕ) (held : b < blocks_of N) {from to : ℕ} (own : OwnWords b from to) where
+  abbrev fail : ℕ → Bool
+  fail = fails N b cap
+
+  before_own : (k : ℕ) → k < from → fail k ≡ false
+  before_own k l = fails_outside N b cap k (λ i. omega (arith, own.start, i.above, l))
+
+  pub found_own : {i : ℕ} → FirstIn fail from to (Some i) → Some i ≡ first_found fail (words N)
+  unfolding first_found
+  found_own {i} f =
+      let l : i < words N = omega (arith, f.1, own.within, stretch_within N b held) in
+      rw (first_is fail i (words N) (λ k m. by_bound from k (before_own k) (λ q. f.3 k q m)) l f.2, lt-ltb i (words N) l)
+
+  pub found_behind : {r : Option ℕ} → FirstIn fail from to None → FirstIn fail (first_element b + info_elements) (stretch_to b) r
+      → r ≡ first_found fail (words N)
+  unfolding first_found
+  found_behind {r = Some i} f g =
+      let l : i < words N = omega (arith, g.1, stretch_within N b held) in
+      rw (first_is fail i (words N) (λ k m. until f k (λ q. g.3 k q m)) l g.2, lt-ltb i (words N) l)
+    where
+      until : FirstIn fail from to None → (k : ℕ) → (first_element b + info_elements ≤ k → fail k ≡ false) → fail k ≡ false
+      until f k q =
+          by_bound from k (before_own k) (λ m. by_bound to k (f k m)
+          (λ n. by_bound (first_element b + info_elements) k (λ l. fails_between N b cap k (own.over k n l)) q))
+  found_behind {r = None} f g =
+      rw (
+        first_none fail (words N) (λ k l. by_bound from k (before_own k) (λ m. by_bound to k (f k m)
+            (λ n. by_bound (first_element b + info_elements) k (λ l. fails_between N b cap k (own.over k n l))
+            (λ q. by_bound (stretch_to b) k (g k q) (λ z. fails_outside N b cap k (λ i. omega (arith, i.below, z))))))),
+        le-ltb (words N) (words N) (omega arith),
+      )

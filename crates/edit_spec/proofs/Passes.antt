@@ -9,16 +9,16 @@ use native.Mathlib.Omega.{arith}
 use lib.ListN.{length, set, drop, length-append, length-drop}
 use Rattle.prelude.specs.Loops.{count}
 use Rattle.hamming.proofs.Words.{coded_long}
-use Rattle.sizes.specs.Sizes.{capture_length, words, list_length, word_bytes}
+use Rattle.sizes.specs.Sizes.{capture_length, words, list_length, word_bytes, info_elements, blocks_of}
 use Rattle.line.specs.Frames.{super_of, element_of}
 use Rattle.line.specs.Slots.{slot_bit}
 use Rattle.line_order.specs.Order.{laid, word_in}
 use Rattle.line.specs.Words.{words_of, fec_in}
 use Rattle.line_order.proofs.OrderLaws.{done_here, done_past, done_step, done_same, length-laid, length-word, word-laid, laid_ext, laid_words, put_laid}
 use Rattle.edit_spec.specs.Edit.{fec_of, crc_change, edited_fec, listed, picked, list_of, edited_word, edited_capture}
-use Rattle.edit_spec.specs.Steps.{remade, mixed, listing, Passing, WordPassed}
+use Rattle.edit_spec.specs.Steps.{first_element, stretch_to, OwnWords, remade, mixed, listing, Passing, WordPassed}
 use Rattle.edit_spec.proofs.Picking.{length-picked, picked_no, picked_set, count_yes, count_no}
-use Rattle.edit_spec.proofs.Listing.{listed_few}
+use Rattle.edit_spec.proofs.Listing.{listed_few, listed_outside, listed_between, stretch_within}
 use Rattle.line_order.specs.Steps.{put_word, changed}
 use Rattle.edit_spec.proofs.Remaking.{word_made}
 
@@ -141,6 +141,18 @@ module _ (N b : ℕ) (bits parity cap₀ list₀ : List ℕ) where
           (cond x (put_word cap w (remade b bits parity crc w (word_in cap w))) cap) (cond x (set list c w) list) (cond x (c + 1) c)
       by true i = passing_listed w crc c cap list i p h e q
       by false i = passing_other w c cap list i p
+
+  -- the two stretches: before the first, between them and behind them no word is listed
+  pub passing_own : {from to : ℕ} → OwnWords b from to → length cap₀ ≡ capture_length N → Passing N b bits parity cap₀ list₀ from cap₀ list₀ 0
+  passing_own {from} o e = passing_skip from (omega arith) (λ x l m. listed_outside N b x (λ i. omega (arith, o.start, i.above, m))) (passing_start e)
+
+  pub passing_between : {from to c : ℕ} {cap list : List ℕ} → OwnWords b from to → Passing N b bits parity cap₀ list₀ to cap list c
+      → Passing N b bits parity cap₀ list₀ (first_element b + info_elements) cap list c
+  passing_between o p = passing_skip (first_element b + info_elements) o.within (λ x l m. listed_between N b x (o.over x l m)) p
+
+  pub passing_behind : {c : ℕ} {cap list : List ℕ} → b < blocks_of N → Passing N b bits parity cap₀ list₀ (stretch_to b) cap list c
+      → Passing N b bits parity cap₀ list₀ (words N) cap list c
+  passing_behind h p = passing_skip (words N) (stretch_within N b h) (λ x l m. listed_outside N b x (λ i. omega (arith, i.below, l))) p
 
   -- where the pass ends
   pub passing_capture : {c : ℕ} {cap list : List ℕ} → Passing N b bits parity cap₀ list₀ (words N) cap list c → cap ≡ edited_capture N b bits parity cap₀

@@ -1,20 +1,19 @@
 -- The steps of an edit as the code takes them: a word made anew from its received bytes, and how far a pass has come. Assumes nothing: these are definitions.
-use Rattle.std.specs.Prelude.{ℕ, ◌+◌, ◌-◌, ◌*◌, ◌/◌, ◌%◌, ◌≤◌, ◌<◌, Bool, true, false, cond, ◌≡◌, Option, Some, None, List, ◌++◌, length, set, drop, ltb}
+use Rattle.std.specs.Prelude.{ℕ, ◌+◌, ◌-◌, ◌*◌, ◌/◌, ◌%◌, ◌≤◌, ◌<◌, Bool, true, false, cond, ◌≡◌, Option, Some, None, MatchOption, List, ◌++◌, length, set, drop, ltb}
 use Rattle.bits.specs.Bits.{digit, bit_at, pack, added}
 use Rattle.bits_place.specs.Steps.{placed_at, masked}
 use Rattle.prelude.specs.Loops.{first, count}
 use Rattle.scrambler.specs.Scrambler.{o}
-use Rattle.scrambling.specs.Steps.{one_period, frame_place}
+use Rattle.scrambling.specs.Steps.{frame_place}
 use Rattle.hamming.specs.Code.{coded}
-use Rattle.hamming_matrix.specs.Steps.{tail_table}
 use Rattle.line_order.specs.Steps.{done_to, put_word}
-use Rattle.hamming_table.specs.Steps.{byte_table}
 use Rattle.sizes.specs.Sizes.{crc_bits, parity_bytes, fec_blocks, element_bits, super_elements, fec_elements, capture_length, longest_wait, blocks_of}
 use Rattle.sizes.specs.Sizes.{block_bits, info_elements, block_bytes, list_length, most_frames, word_bytes}
 use Rattle.line.specs.Fec.{fields}
 use Rattle.line.specs.Slots.{element_in}
+use Rattle.line.specs.Words.{fec_in}
 use Rattle.line_order.specs.Order.{laid, word_in}
-use Rattle.edit_spec.specs.Edit.{fec_of, in_block, block_from, element_local, listed, picked, edited_word, client_spare_set}
+use Rattle.edit_spec.specs.Edit.{fec_of, in_block, block_from, element_local, crc_change, listed, picked, edited_word, client_spare_set}
 
 -- ---- what a call has shown that none of the numbers 1 to 3 refuses
 pub record AcceptedEdit (N b : ℕ) (bits parity cap list : List ℕ) : Type 0 where
@@ -30,6 +29,12 @@ pub record AcceptedEdit (N b : ℕ) (bits parity cap list : List ℕ) : Type 0 w
 -- the first of n places that p picks, if one is picked
 unfoldable pub first_found : (ℕ → Bool) → ℕ → Option ℕ
 first_found p n = cond (ltb (first p n) n) (Some (first p n)) None
+
+-- of the numbers from .. to - 1 the first that p picks, if one is picked
+abbrev pub FirstIn : (ℕ → Bool) → ℕ → ℕ → Option ℕ → Type 0
+FirstIn p from to r =
+    MatchOption r ((k : ℕ) → from ≤ k → k < to → p k ≡ false)
+    (λ i. (from ≤ i) × (i < to) × (p i ≡ true) × ((k : ℕ) → from ≤ k → k < i → p k ≡ false))
 
 -- ---- where the listed words are
 
@@ -58,11 +63,12 @@ pub record Between (b w : ℕ) : Type 0 where
   pub behind : first_element b + ((block_from b + (block_bits - 1)) / element_bits + longest_wait) < w
   pub before : w < first_element b + info_elements
 
--- from word w the pass goes on at word r
-pub record NextWord (b w r : ℕ) : Type 0 where
-  pub later : w < r
-  pub within : r ≤ stretch_to b
-  pub over : (x : ℕ) → w < x → x < r → Between b x
+-- the words that can hold an element of the client block, from .. to - 1: behind them none is listed before those of CRC and parity
+pub record OwnWords (b from to : ℕ) : Type 0 where
+  pub start : from ≡ stretch_from b
+  pub rises : from ≤ to
+  pub within : to ≤ first_element b + info_elements
+  pub over : (x : ℕ) → to ≤ x → x < first_element b + info_elements → Between b x
 
 -- ---- a word made anew
 
@@ -101,13 +107,6 @@ with_crc crc old = pack word_bytes (added (bit_at old) (crc_bit crc))
 unfoldable pub remade : ℕ → List ℕ → List ℕ → ℕ → ℕ → List ℕ → List ℕ
 remade b bits parity crc w old = coded (new_element b bits parity crc (element_in w) old)
 
--- ---- what is made once and lent: one period of the scrambler's sequence, and the code's two tables
-
-pub record Lent (scr t tails : List ℕ) : Type 0 where
-  pub sequence : scr ≡ one_period
-  pub checks : t ≡ byte_table
-  pub closing : tails ≡ tail_table
-
 -- ---- the pass over the words: those below w are done
 
 -- the words of the capture so far
@@ -129,3 +128,16 @@ pub record WordPassed (N b : ℕ) (bits parity : List ℕ) (crc w c : ℕ) (cap 
   pub capture : cap' ≡ cond (listed N b w) (put_word cap w (remade b bits parity crc w (word_in cap w))) cap
   pub entries : list' ≡ cond (listed N b w) (set list c w) list
   pub counted : c' ≡ cond (listed N b w) (c + 1) c
+
+-- a pass has come to word w, and the change of the CRC is crc
+pub record Begun (N b : ℕ) (bits parity : List ℕ) (crc w : ℕ) (cap list : List ℕ) (c : ℕ) : Type 0 where
+  pub cap₀ : List ℕ
+  pub list₀ : List ℕ
+  pub list_long : length list₀ ≡ list_length
+  pub change : crc ≡ crc_change b bits (fec_in (word_in cap₀) (fec_of b))
+  pub passing : Passing N b bits parity cap₀ list₀ w cap list c
+
+-- and it goes on to word v
+pub record PassedOn (N b : ℕ) (bits parity : List ℕ) (crc w v : ℕ) (cap list : List ℕ) (c : ℕ) (cap' list' : List ℕ) (c' : ℕ) : Type 0 where
+  pub on : (cap₀ list₀ : List ℕ) → length list₀ ≡ list_length → crc ≡ crc_change b bits (fec_in (word_in cap₀) (fec_of b))
+      → Passing N b bits parity cap₀ list₀ w cap list c → Passing N b bits parity cap₀ list₀ v cap' list' c'

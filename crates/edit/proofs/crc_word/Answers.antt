@@ -1,23 +1,25 @@
 -- `edit::crc_word` meets its contract: four bytes, and the zeros that were there. Assumes nothing.
-use mathlib.Core.Path.{◌∙◌}
+use Prim.Native.Nat.{ℕ, ◌-◌, ◌*◌, ◌/◌, ◌%◌, ◌^◌, ◌<◌}
+use mathlib.Core.Path.{◌≡◌, ap, ◌∙◌}
+use mathlib.Core.List.{List, ◌++◌}
 use native.Mathlib.Omega.{arith}
-use mir.Val.{Fits}
 use mir.Syntax.{w32}
-use Rattle.prelude.proofs.Lists.{filled_more, filled_to}
-use Rattle.prelude.proofs.LoopLaws.{loops}
+use lib.ListN.{drop, replicate}
+use Rattle.prelude.specs.Lists.{tabulate}
+use Rattle.std.specs.Int.{to_be_bytes}
+use Rattle.bits.specs.Bits.{byte_of}
+use Rattle.sizes.specs.Sizes.{crc_bits, word_bytes}
+use Rattle.edit_spec.specs.Steps.{crc_bit}
 use Rattle.edit_spec.proofs.Remaking.{crc_byte, crc_placed}
-use borrow.Author.Rules.{rules}
 use Rattle.edit.proofs.crc_word.Goals as goal
 
-pub loop-k-preserved : goal.loop-k-preserved
-loop-k-preserved c = let h = c.loop-k in
-    let crc = c.args.crc in
-    let x : Fits w32 crc = search rules in
-    (omega arith, filled_more h.invariant.1 (omega arith) (crc_byte crc h.k x.fits c.loop-k-test.true))
+bytes : (crc : ℕ) → crc < 2 ^ crc_bits → to_be_bytes w32 crc ≡ tabulate 4 (byte_of (crc_bit crc))
+unfolding tabulate
+bytes crc h =
+    let low : crc / 2 ^ (24 - 8 * 3) % 256 ≡ crc % 256 = omega arith in
+    rw (← crc_byte crc 0 h (omega arith), ← crc_byte crc 1 h (omega arith), ← crc_byte crc 2 h (omega arith), ← crc_byte crc 3 h (omega arith), low)
 
 pub returns : goal.returns
-returns c = let h = c.loop-k in
-    (filled_to 4 h.invariant.1 (omega (arith, h.invariant.0, c.loop-k-test.false))).is ∙ crc_placed c.args.crc
-
-pub loop-k-init : goal.loop-k-init
-loop-k-init c = search loops
+returns c = let crc = c.args.crc in
+    ap (λ (s : List ℕ). s ++ drop 4 (replicate word_bytes 0))
+    (c.copy_from_slice.ensures.after ∙ c.to_be_bytes.ensures ∙ bytes crc c.ranges.crc.fits) ∙ crc_placed crc
