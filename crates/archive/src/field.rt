@@ -37,6 +37,7 @@ pub(crate) fn number_at(k: usize, s: &[u8], a: usize) -> u64
     ensures { Number k s.now a result }
 {
     let mut x: u64 = 0;
+    // Kept: past the end there are zeros, which `byte_at` gives: a slice of k bytes may not be there to go over.
     for j in 0..k {
         x = x * 256 + bits::wide(bits::byte_at(s, a + j)) as u64;
     }
@@ -48,6 +49,7 @@ pub(crate) fn put_number(x: u64, k: usize, at: usize, to: &mut [u8])
     requires { (k ≤ 4) × (x < 2 ^ (8 * k)) × (at + k ≤ length to.old) }
     ensures { to.new ≡ placed to.old at (bytes_of k x) }
 {
+    // Kept: j picks the byte of the number and its place alike: `enumerate` over the places would hand out the same j, and `at` in a slice beside it.
     for j in 0..k {
         to[at + j] = ((x >> (8 * (k - 1 - j))) % 256) as u8;
     }
@@ -74,6 +76,7 @@ fn list(first: &[u8], at: usize, k: usize, n: usize, to: &mut [u64])
     requires { (at ≤ 8) × (k ≤ 4) × (n ≤ most_entries) × (n ≤ length to.old) }
     ensures { to.new ≡ overwritten n (field_in k at first.now) to.old }
 {
+    // Kept: e picks the entry in the bytes, which are no list: `to[..n].iter_mut().enumerate()` would hand out the same e.
     for e in 0..n {
         to[e] = number_at(k, first, entry_from(e) + at);
     }

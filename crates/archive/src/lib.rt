@@ -24,6 +24,9 @@ pub const BEFORE_ENTRIES: usize = 18;
 
 pub const MOST_HEAD_BYTES: usize = BEFORE_ENTRIES + ENTRY_BYTES * MOST_ENTRIES;
 
+// Kept: kinds, offsets and lengths are lists of numbers side by side, here and wherever the table is handed on, since C hands them over so, in
+// `zr400_archive_write` and `zr400_archive_read`.
+
 // Makes the head of a file whose bodies have these kinds and lengths. The count is that of its bytes.
 pub fn write(count: u64, kinds: &[u64], lengths: &[u64], head: &mut [u8]) -> Result<u64, Refused>
     ensures { Outcome (write_answer count kinds.now lengths.now (length head.old))

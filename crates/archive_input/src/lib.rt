@@ -69,6 +69,7 @@ fn counted(end: io::Result<u64>) -> u64 {
 fn read_until<R: Read>(reader: &mut R, from: u64, most: u64, first: &mut [u8]) -> io::Result<u64> {
     let mut space = [0u8; SPACE_BYTES];
     let mut bytes = from;
+    // Kept: a turn takes as many bytes as a read gives, which is no step of an iterator; `bytes()` would ask for one byte at a time.
     while bytes < most {
         let n = reader.read(&mut space)?;
         if n == 0 {

@@ -6,6 +6,7 @@ use std::io;
 use std::io::Write;
 
 // The lines of the first `count` entries.
+// Kept: three lists, and a count beside them, as `archive::read` fills them for C.
 pub fn print<W: Write>(
     out: &mut W,
     kinds: &[u64; 32],

@@ -13,16 +13,14 @@ pub fn code<W: Write>(shell: &mut Shell<W>) -> io::Result<()> {
         return Ok(());
     };
     let mut info = buffer_sizes::large_space();
-    let Some(i) = shell.load(4, &mut info)? else {
+    let Some(info) = shell.load(4, &mut info)? else {
         return Ok(());
     };
     let mut parity = buffer_sizes::small_space();
-    let Some(j) = shell.load(5, &mut parity)? else {
+    let Some(parity) = shell.load(5, &mut parity)? else {
         return Ok(());
     };
-    let mut capture = buffer_sizes::large_space();
-    let k = buffer_sizes::capture(n);
-    code_files(shell, n, m0, &info[..i], &parity[..j], &mut capture[..k])
+    code_files(shell, n, m0, info, parity)
 }
 
 fn code_files<W: Write>(
@@ -31,8 +29,9 @@ fn code_files<W: Write>(
     m0: u64,
     info: &[u8],
     parity: &[u8],
-    capture: &mut [u8],
 ) -> io::Result<()> {
+    let mut space = buffer_sizes::large_space();
+    let capture = &mut space[..buffer_sizes::capture(n)];
     match capture::code(n, m0, info, parity, capture) {
         Ok(words) => {
             if shell.save(6, capture)? {
@@ -64,31 +63,17 @@ pub fn read<W: Write>(shell: &mut Shell<W>) -> io::Result<()> {
         return Ok(());
     };
     let mut capture = buffer_sizes::large_space();
-    let Some(k) = shell.load(4, &mut capture)? else {
+    let Some(capture) = shell.load(4, &mut capture)? else {
         return Ok(());
     };
-    let mut info = buffer_sizes::large_space();
-    let mut parity = buffer_sizes::small_space();
-    let i = buffer_sizes::information(n);
-    let j = buffer_sizes::parity(n);
-    read_file(
-        shell,
-        n,
-        m0,
-        &capture[..k],
-        &mut info[..i],
-        &mut parity[..j],
-    )
+    read_file(shell, n, m0, capture)
 }
 
-fn read_file<W: Write>(
-    shell: &mut Shell<W>,
-    n: u64,
-    m0: u64,
-    capture: &[u8],
-    info: &mut [u8],
-    parity: &mut [u8],
-) -> io::Result<()> {
+fn read_file<W: Write>(shell: &mut Shell<W>, n: u64, m0: u64, capture: &[u8]) -> io::Result<()> {
+    let mut large = buffer_sizes::large_space();
+    let info = &mut large[..buffer_sizes::information(n)];
+    let mut small = buffer_sizes::small_space();
+    let parity = &mut small[..buffer_sizes::parity(n)];
     match capture::read(n, m0, capture, info, parity) {
         Ok(words) => {
             if shell.save(5, info)? && shell.save(6, parity)? {
@@ -113,18 +98,18 @@ pub fn edit<W: Write>(shell: &mut Shell<W>) -> io::Result<()> {
         return Ok(());
     };
     let mut bits = [0u8; 34];
-    let Some(i) = shell.load(4, &mut bits)? else {
+    let Some(bits) = shell.load(4, &mut bits)? else {
         return Ok(());
     };
     let mut parity = buffer_sizes::small_space();
-    let Some(j) = shell.load(5, &mut parity)? else {
+    let Some(parity) = shell.load(5, &mut parity)? else {
         return Ok(());
     };
     let mut capture = buffer_sizes::large_space();
-    let Some(k) = shell.load(6, &mut capture)? else {
+    let Some(capture) = shell.load(6, &mut capture)? else {
         return Ok(());
     };
-    edit_files(shell, n, block, &bits[..i], &parity[..j], &mut capture[..k])
+    edit_files(shell, n, block, bits, parity, capture)
 }
 
 fn edit_files<W: Write>(

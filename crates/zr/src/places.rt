@@ -33,10 +33,10 @@ fn convert<W: Write, F: FnOnce(&mut Shell<W>, u64, u64, u64, &[u8]) -> io::Resul
         return Ok(());
     };
     let mut from = buffer_sizes::large_space();
-    let Some(i) = shell.load(5, &mut from)? else {
+    let Some(from) = shell.load(5, &mut from)? else {
         return Ok(());
     };
-    step(shell, c, f, n, &from[..i])
+    step(shell, c, f, n, from)
 }
 
 fn map_groups<W: Write>(

@@ -1,5 +1,5 @@
 // The files and numbers that the arguments name. What goes wrong with one is said here, once.
-ghost use Rattle.std.specs.Prelude.{◌≡◌, ◌≤◌, length, IfOk, IfSome, OnErr};
+ghost use Rattle.std.specs.Prelude.{◌≡◌, ◌≤◌, length, IfOk, OnErr};
 
 use crate::{Shell, said};
 use std::env::{Env, FillError};
@@ -22,6 +22,7 @@ impl<W: Write> Shell<'_, W> {
     // How many arguments the program was started with, its own name among them.
     pub fn argument_count(&self) -> usize {
         let mut space = [0u8; ARGUMENT_BYTES];
+        // Kept: `std::env::args` counts them too, but on the heap.
         for i in 0..usize::MAX {
             if let Err(FillError::NotPresent) = self.rt.arg(i, &mut space) {
                 return i;
@@ -42,18 +43,15 @@ impl<W: Write> Shell<'_, W> {
         Ok(number)
     }
 
-    // Reads the file that argument i names, to its end or until `into` is full, and answers how many of its bytes are there.
-    pub fn load(&mut self, i: usize, into: &mut [u8]) -> io::Result<Option<usize>>
-        ensures ok { IfOk result (λ r. IfSome r (λ n. n ≤ length into.new)) }
-        ensures err { OnErr result (length into.new ≡ length into.old) }
-    {
+    // Reads the file that argument i names, to its end or until `into` is full, and answers the part that holds its bytes.
+    pub fn load<'s>(&mut self, i: usize, into: &'s mut [u8]) -> io::Result<Option<&'s mut [u8]>> {
         let mut space = [0u8; ARGUMENT_BYTES];
         let path = self.argument(i, &mut space);
         let Some(mut file) = self.open(path)? else {
             return Ok(None);
         };
         match read_all(&mut file, into) {
-            Ok(bytes) => Ok(Some(bytes)),
+            Ok(bytes) => Ok(Some(&mut into[..bytes])),
             Err(error) => {
                 self.unread(path, error)?;
                 Ok(None)
@@ -122,6 +120,7 @@ fn read_all<R: Read>(from: &mut R, into: &mut [u8]) -> io::Result<usize>
     ensures err { OnErr result (length into.new ≡ length into.old) }
 {
     let mut done = 0;
+    // Kept: a turn takes as many bytes as a read gives, which is no step of an iterator; `read_to_end` would need the heap.
     while done < into.len() {
         let more = from.read(&mut into[done..])?;
         if more == 0 {

@@ -6,6 +6,7 @@ pub mod files;
 pub mod said;
 
 // Where the answer goes, and where the arguments and the files come from.
+#[derive(Drop)]
 pub struct Shell<'a, W> {
     pub out: W,
     pub rt: &'a HostRuntime,
