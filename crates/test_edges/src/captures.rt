@@ -20,12 +20,7 @@ fn edit_by<W: Write>(
 }
 
 // A client block, whose seven bits behind the 257 are zero, and the parity of its FEC block.
-fn edit<W: Write>(
-    out: &mut W,
-    n: u64,
-    g: &mut Generator,
-    capture: &mut [u8],
-) -> io::Result<()> {
+fn edit<W: Write>(out: &mut W, n: u64, g: &mut Generator, capture: &mut [u8]) -> io::Result<()> {
     let mut bits = [0u8; sizes::BLOCK_BYTES];
     let mut parity = [0u8; sizes::PARITY_BYTES];
     g.step();

@@ -289,11 +289,7 @@ fn flipped_in<W: Write>(
 
 // Edits where bits are wrong. A granted edit keeps them so: flipped back, the capture is that of the edit without them, if so it says.
 #[inline(never)]
-fn flipped<W: Write>(
-    out: &mut W,
-    flips: &[(usize, usize)],
-    spare: u8,
-) -> io::Result<Option<bool>> {
+fn flipped<W: Write>(out: &mut W, flips: &[(usize, usize)], spare: u8) -> io::Result<Option<bool>> {
     let mut capture = buffer_sizes::large_space();
     flipped_in(out, flips, spare, &mut capture[..ONE_BYTES])
 }
@@ -393,7 +389,10 @@ fn fill_words(seed: u64, capture: &mut [u8]) {
 fn edit_twice<W: Write>(out: &mut W, block: u64, capture: &mut [u8]) -> io::Result<()> {
     fill_words(400 + block % 100000, capture);
     let before = test_data::digest(capture);
-    writeln!(out, "never coded block {block} before: capture {before:016x}")?;
+    writeln!(
+        out,
+        "never coded block {block} before: capture {before:016x}"
+    )?;
     write!(out, "never coded block {block}")?;
     Call::stated(1, block).edit(out, capture)?;
     write!(out, "never coded block {block} again")?;
