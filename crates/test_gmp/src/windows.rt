@@ -90,11 +90,9 @@ impl Case {
 }
 
 pub fn cases<W: Write>(out: &mut W) -> io::Result<()> {
-    let mut number = 0;
-    for (c, f, n, groups, window, low) in &CASES {
-        number = (number + 1) % 100;
+    for (k, (c, f, n, groups, window, low)) in CASES.iter().enumerate() {
         let case = Case {
-            number,
+            number: (k as u64).wrapping_add(1),
             c: *c,
             f: *f,
             n: *n,
