@@ -100,7 +100,7 @@ fn last_block(n: u64) -> usize {
     ((sizes::FEC_BLOCKS as u64 * (n % 9)) as usize + (MOST_BLOCKS - 1)) % MOST_BLOCKS
 }
 
-fn flip(flips: &[Flip], capture: &mut [u8]) {
+fn flip_all(flips: &[Flip], capture: &mut [u8]) {
     for f in flips {
         test_flip::flip(capture, f.word, f.bits);
     }
@@ -113,7 +113,7 @@ fn flipped_in<W: Write>(
     capture: &mut [u8],
 ) -> io::Result<()> {
     let _ = test_input::code(call.n, capture);
-    flip(flips, capture);
+    flip_all(flips, capture);
     read(out, call, capture)
 }
 

@@ -43,6 +43,7 @@ fn flip_some(g: &mut Generator, capture: &mut [u8], w: usize) {
 }
 
 fn flip_all(g: &mut Generator, capture: &mut [u8]) {
+    // Kept: a word's bytes stand apart in a capture, so a word is named by its number `w`; there is no slice of words to go through.
     for w in 0..capture.len() / sizes::WORD_BYTES {
         flip_some(g, capture, w);
     }

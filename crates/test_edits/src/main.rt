@@ -66,6 +66,7 @@ fn put_bit(s: &mut [u8], i: usize, b: u8) {
 
 // Puts the first bits of `new` to the bytes s, from bit `from` on.
 fn put_bits(s: &mut [u8], from: usize, new: &[u8], count: usize) {
+    // Kept: bits have no slice of their own, and both sides are named by the bit's number `i`.
     for i in 0..count {
         put_bit(s, from.wrapping_add(i), bits::bit_at(new, i));
     }
@@ -381,6 +382,7 @@ fn put_word(g: &mut Generator, w: usize, capture: &mut [u8]) {
 // Every slot, filler too.
 fn fill_words(seed: u64, capture: &mut [u8]) {
     let mut g = Generator::start(seed);
+    // Kept: a word's bytes stand apart in a capture, so a word is named by its number `w`; there is no slice of words to go through.
     for w in 0..ONE_WORDS {
         put_word(&mut g, w, capture);
     }
