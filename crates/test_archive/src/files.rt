@@ -29,7 +29,10 @@ pub fn length_of(i: u64, swap: Swap) -> u64 {
 
 // Where the body of entry e of n begins; where entry n's would is the end of the file.
 pub fn offset(n: u64, lengths: Swap, e: u64) -> u64 {
-    (0..e).fold(18 + 9 * (n % 100), |at, i| at.wrapping_add(length_of(i, lengths)))
+    (0..e).fold(
+        18 + 9 * (n % 100),
+        |at, i| at.wrapping_add(length_of(i, lengths)),
+    )
 }
 
 pub fn set(bytes: &mut [u8], at: u64, x: u64) {

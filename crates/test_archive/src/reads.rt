@@ -36,11 +36,21 @@ fn print_lists<W: Write>(
     lengths: &[u64],
 ) -> io::Result<()> {
     let mut all = [0u64; 99];
-    for (to, from) in all.iter_mut().zip(kinds.iter().chain(offsets).chain(lengths)) {
+    for (to, from) in all
+        .iter_mut()
+        .zip(kinds.iter().chain(offsets).chain(lengths))
+    {
         *to = *from;
     }
-    let long = kinds.len().wrapping_add(offsets.len()).wrapping_add(lengths.len());
-    writeln!(out, " lists {:016x}", test_data::digest(&all[..long.min(99)]))
+    let long = kinds
+        .len()
+        .wrapping_add(offsets.len())
+        .wrapping_add(lengths.len());
+    writeln!(
+        out,
+        " lists {:016x}",
+        test_data::digest(&all[..long.min(99)])
+    )
 }
 
 fn call<W: Write>(
@@ -51,7 +61,11 @@ fn call<W: Write>(
     offsets: &mut [u64],
     lengths: &mut [u64],
 ) -> io::Result<()> {
-    test_print::outcome(out, " ", archive::read(size, first, kinds, offsets, lengths))?;
+    test_print::outcome(
+        out,
+        " ",
+        archive::read(size, first, kinds, offsets, lengths),
+    )?;
     print_lists(out, kinds, offsets, lengths)
 }
 
@@ -88,9 +102,17 @@ impl Reading {
         let (e, length) = self.length.unwrap_or((99, 0));
         let (p, x) = self.byte.unwrap_or((999, 0));
         let (q, y) = self.second.unwrap_or((999, 0));
-        write!(out, "read {} length {e} {length} size {}", self.entries, self.size)?;
+        write!(
+            out,
+            "read {} length {e} {length} size {}",
+            self.entries, self.size
+        )?;
         write!(out, " set {p} {x} {q} {y} 999 0 first {}", self.first)?;
-        write!(out, " lists {} {} {}", self.kinds, self.offsets, self.lengths)
+        write!(
+            out,
+            " lists {} {} {}",
+            self.kinds, self.offsets, self.lengths
+        )
     }
 
     // So many first bytes are handed in.
@@ -106,7 +128,14 @@ impl Reading {
         let i = self.kinds.min(33);
         let j = self.offsets.min(33);
         let k = self.lengths.min(33);
-        call(out, self.size, first, &mut kinds[..i], &mut offsets[..j], &mut lengths[..k])
+        call(
+            out,
+            self.size,
+            first,
+            &mut kinds[..i],
+            &mut offsets[..j],
+            &mut lengths[..k],
+        )
     }
 
     fn run<W: Write>(self, out: &mut W) -> io::Result<()> {
@@ -245,7 +274,12 @@ fn cut_off_changed<W: Write>(out: &mut W) -> io::Result<()> {
     let right = Reading::right(32);
     for size in 18..306u64 {
         let byte = Some((18 + (size - 18) / 9 * 9, 0));
-        Reading { size, byte, ..right }.run(out)?;
+        Reading {
+            size,
+            byte,
+            ..right
+        }
+        .run(out)?;
     }
     Reading { size: 306, ..right }.run(out)
 }
@@ -265,7 +299,11 @@ fn far<W: Write>(out: &mut W, n: u64, e: u64) -> io::Result<()> {
         u64::MAX,
     ];
     for size in &sizes {
-        Reading { size: *size, ..right }.run(out)?;
+        Reading {
+            size: *size,
+            ..right
+        }
+        .run(out)?;
     }
     Ok(())
 }

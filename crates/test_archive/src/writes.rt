@@ -31,8 +31,16 @@ impl Writing {
     fn name<W: Write>(self, out: &mut W) -> io::Result<()> {
         let (e, kind) = self.kind.unwrap_or((99, 0));
         let (f, length) = self.length.unwrap_or((99, 0));
-        write!(out, "write {} lists {} {}", self.count, self.kinds, self.lengths)?;
-        write!(out, " head {} kind {e} {kind} length {f} {length}", self.head)
+        write!(
+            out,
+            "write {} lists {} {}",
+            self.count, self.kinds, self.lengths
+        )?;
+        write!(
+            out,
+            " head {} kind {e} {kind} length {f} {length}",
+            self.head
+        )
     }
 
     fn call<W: Write>(

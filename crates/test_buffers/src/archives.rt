@@ -25,7 +25,13 @@ fn write_into<W: Write>(
 ) -> io::Result<()> {
     test_input::fill(999, head);
     let said = if count == 0 { " of count 0" } else { "" };
-    write!(out, "archive write{said} {} {} {}", kinds.len(), lengths.len(), head.len())?;
+    write!(
+        out,
+        "archive write{said} {} {} {}",
+        kinds.len(),
+        lengths.len(),
+        head.len()
+    )?;
     test_print::outcome(out, ": ", archive::write(count, kinds, lengths, head))?;
     writeln!(out, " head {:016x}", test_data::digest(head))
 }
@@ -54,7 +60,10 @@ fn read_into<W: Write>(
     let kinds = test_data::digest(kinds);
     let offsets = test_data::digest(offsets);
     let lengths = test_data::digest(lengths);
-    writeln!(out, " kinds {kinds:016x} offsets {offsets:016x} lengths {lengths:016x}")
+    writeln!(
+        out,
+        " kinds {kinds:016x} offsets {offsets:016x} lengths {lengths:016x}"
+    )
 }
 
 // A list that is full of something.

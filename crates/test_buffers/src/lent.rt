@@ -11,5 +11,9 @@ pub fn length(stated: usize, pattern: u64) -> usize {
 
 // What is said of a call whose spare bits are not zero.
 pub fn spare_said(spare: u8) -> &'static str {
-    if spare == 0 { "" } else { " with a spare bit set" }
+    if spare == 0 {
+        ""
+    } else {
+        " with a spare bit set"
+    }
 }

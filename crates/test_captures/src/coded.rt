@@ -61,9 +61,30 @@ fn refusals<W: Write>(out: &mut W) -> io::Result<()> {
     refused(out, "N 0", Call { n: 0, ..right })?;
     refused(out, "N 9", Call { n: 9, ..right })?;
     refused(out, "m0 128", Call { m0: 128, ..right })?;
-    refused(out, "information one byte short", Call { info: 152914, ..right })?;
-    refused(out, "parity one byte long", Call { parity: 10241, ..right })?;
-    refused(out, "capture one byte short", Call { capture: 183295, ..right })
+    refused(
+        out,
+        "information one byte short",
+        Call {
+            info: 152914,
+            ..right
+        },
+    )?;
+    refused(
+        out,
+        "parity one byte long",
+        Call {
+            parity: 10241,
+            ..right
+        },
+    )?;
+    refused(
+        out,
+        "capture one byte short",
+        Call {
+            capture: 183295,
+            ..right
+        },
+    )
 }
 
 pub fn cases<W: Write>(out: &mut W) -> io::Result<()> {

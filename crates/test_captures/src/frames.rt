@@ -114,7 +114,12 @@ fn flipped<W: Write>(out: &mut W, n: u64, m: u64, capture: &mut [u8]) -> io::Res
 // The last client block, and the first past it; a block far past the end for none.
 fn edited<W: Write>(out: &mut W, n: u64, capture: &mut [u8]) -> io::Result<()> {
     let blocks = BLOCKS * (n % 10);
-    edit(out, n, (blocks + (10 * BLOCKS - 1)) % (10 * BLOCKS), capture)?;
+    edit(
+        out,
+        n,
+        (blocks + (10 * BLOCKS - 1)) % (10 * BLOCKS),
+        capture,
+    )?;
     edit(out, n, blocks, capture)
 }
 

@@ -6,7 +6,12 @@ use std::io::{self, Write};
 fn part<W: Write>(out: &mut W, n: u64, t: u64, info: &[u8]) -> io::Result<()> {
     let p = capture::information(n, t, info);
     test_print::outcome(out, ": ", capture::information_answer(n, t, info))?;
-    writeln!(out, " bytes {} digest {:016x}", p.len(), test_data::digest(p))
+    writeln!(
+        out,
+        " bytes {} digest {:016x}",
+        p.len(),
+        test_data::digest(p)
+    )
 }
 
 fn ask<W: Write>(out: &mut W, n: u64, last: u64, info: &[u8]) -> io::Result<()> {

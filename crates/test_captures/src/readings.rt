@@ -100,7 +100,7 @@ fn last_block(n: u64) -> usize {
     ((sizes::FEC_BLOCKS as u64 * (n % 9)) as usize + (MOST_BLOCKS - 1)) % MOST_BLOCKS
 }
 
-fn flip(flips: &[Flip], capture: &mut [u8]) {
+fn flip_all(flips: &[Flip], capture: &mut [u8]) {
     for f in flips {
         test_flip::flip(capture, f.word, f.bits);
     }
@@ -113,7 +113,7 @@ fn flipped_in<W: Write>(
     capture: &mut [u8],
 ) -> io::Result<()> {
     let _ = test_input::code(call.n, capture);
-    flip(flips, capture);
+    flip_all(flips, capture);
     read(out, call, capture)
 }
 
@@ -164,13 +164,27 @@ fn every_word<W: Write>(out: &mut W, n: u64) -> io::Result<()> {
 // Number 4: a word, which is filler, beyond repair.
 fn beyond<W: Write>(out: &mut W, n: u64, word: usize) -> io::Result<()> {
     write!(out, "N {n} two flips in word {word}")?;
-    flipped(out, n, &[Flip { word, bits: two_bits() }])
+    flipped(
+        out,
+        n,
+        &[Flip {
+            word,
+            bits: two_bits(),
+        }],
+    )
 }
 
 // Number 5: a word, which is filler, not zero.
 fn filler<W: Write>(out: &mut W, n: u64, word: usize) -> io::Result<()> {
     write!(out, "N {n} filler not zero in word {word}")?;
-    flipped(out, n, &[Flip { word, bits: sound(0) }])
+    flipped(
+        out,
+        n,
+        &[Flip {
+            word,
+            bits: sound(0),
+        }],
+    )
 }
 
 fn words<W: Write>(out: &mut W, n: u64) -> io::Result<()> {
@@ -226,7 +240,11 @@ fn word_and_filler<W: Write>(out: &mut W, n: u64) -> io::Result<()> {
 
 fn crc_and_pad<W: Write>(out: &mut W, n: u64) -> io::Result<()> {
     write!(out, "N {n} last CRC and first pad wrong")?;
-    flipped(out, n, &[block_bit(last_block(n), 244695), frame_bit(0, 1305430)])
+    flipped(
+        out,
+        n,
+        &[block_bit(last_block(n), 244695), frame_bit(0, 1305430)],
+    )
 }
 
 // One number applies twice: the smaller place wins.
@@ -237,7 +255,10 @@ fn crc_twice<W: Write>(out: &mut W, n: u64) -> io::Result<()> {
 
 // A filler word is looked at after repair.
 fn repaired_filler<W: Write>(out: &mut W, n: u64) -> io::Result<()> {
-    write!(out, "N {n} last filler not zero, its only element bit flipped")?;
+    write!(
+        out,
+        "N {n} last filler not zero, its only element bit flipped"
+    )?;
     let word = last_word(n);
     let filled = Flip {
         word,
@@ -310,9 +331,30 @@ fn refusals<W: Write>(out: &mut W) -> io::Result<()> {
     refused(out, "N 0", Call { n: 0, ..right })?;
     refused(out, "N 9", Call { n: 9, ..right })?;
     refused(out, "m0 128", Call { m0: 128, ..right })?;
-    refused(out, "capture one byte short", Call { capture: 183295, ..right })?;
-    refused(out, "information one byte long", Call { info: 152916, ..right })?;
-    refused(out, "parity one byte short", Call { parity: 10239, ..right })
+    refused(
+        out,
+        "capture one byte short",
+        Call {
+            capture: 183295,
+            ..right
+        },
+    )?;
+    refused(
+        out,
+        "information one byte long",
+        Call {
+            info: 152916,
+            ..right
+        },
+    )?;
+    refused(
+        out,
+        "parity one byte short",
+        Call {
+            parity: 10239,
+            ..right
+        },
+    )
 }
 
 pub fn cases<W: Write>(out: &mut W) -> io::Result<()> {

@@ -20,12 +20,7 @@ fn edit_by<W: Write>(
 }
 
 // A client block, whose seven bits behind the 257 are zero, and the parity of its FEC block.
-fn edit<W: Write>(
-    out: &mut W,
-    n: u64,
-    g: &mut Generator,
-    capture: &mut [u8],
-) -> io::Result<()> {
+fn edit<W: Write>(out: &mut W, n: u64, g: &mut Generator, capture: &mut [u8]) -> io::Result<()> {
     let mut bits = [0u8; sizes::BLOCK_BYTES];
     let mut parity = [0u8; sizes::PARITY_BYTES];
     g.step();
@@ -48,6 +43,7 @@ fn flip_some(g: &mut Generator, capture: &mut [u8], w: usize) {
 }
 
 fn flip_all(g: &mut Generator, capture: &mut [u8]) {
+    // Kept: a word's bytes stand apart in a capture, so a word is named by its number `w`; there is no slice of words to go through.
     for w in 0..capture.len() / sizes::WORD_BYTES {
         flip_some(g, capture, w);
     }

@@ -20,7 +20,11 @@ fn map<W: Write>(out: &mut W, w: Window, groups: &[u8], window: &mut [u8]) -> io
 }
 
 fn unmap<W: Write>(out: &mut W, w: Window, window: &[u8], groups: &mut [u8]) -> io::Result<()> {
-    test_print::outcome(out, " unmap: ", gmp_map::unmap(w.c, w.f, w.n, window, groups))?;
+    test_print::outcome(
+        out,
+        " unmap: ",
+        gmp_map::unmap(w.c, w.f, w.n, window, groups),
+    )?;
     writeln!(out, " groups {:016x}", test_data::digest(groups))
 }
 
@@ -45,7 +49,14 @@ fn sized<W: Write>(out: &mut W, w: Window, g: &mut Generator) -> io::Result<()> 
     let mut groups = [0u8; SPACE];
     let mut window = [90u8; SPACE];
     let mut back = [60u8; SPACE];
-    there_and_back(out, w, g, &mut groups[..d], &mut window[..k], &mut back[..d])
+    there_and_back(
+        out,
+        w,
+        g,
+        &mut groups[..d],
+        &mut window[..k],
+        &mut back[..d],
+    )
 }
 
 // The generator's next number below m.

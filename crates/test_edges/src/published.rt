@@ -11,7 +11,11 @@ fn check_value<W: Write>(out: &mut W) -> io::Result<()> {
 fn scrambler<W: Write>(out: &mut W) -> io::Result<()> {
     let s = scrambler::sequence();
     let w = bits_copy::word_from(&s, 0);
-    writeln!(out, "scrambler bits 0 to 23: {:02x}{:02x}{:02x}", w[0], w[1], w[2])
+    writeln!(
+        out,
+        "scrambler bits 0 to 23: {:02x}{:02x}{:02x}",
+        w[0], w[1], w[2]
+    )
 }
 
 fn table_7<W: Write>(out: &mut W) -> io::Result<()> {

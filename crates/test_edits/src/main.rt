@@ -66,6 +66,7 @@ fn put_bit(s: &mut [u8], i: usize, b: u8) {
 
 // Puts the first bits of `new` to the bytes s, from bit `from` on.
 fn put_bits(s: &mut [u8], from: usize, new: &[u8], count: usize) {
+    // Kept: bits have no slice of their own, and both sides are named by the bit's number `i`.
     for i in 0..count {
         put_bit(s, from.wrapping_add(i), bits::bit_at(new, i));
     }
@@ -289,11 +290,7 @@ fn flipped_in<W: Write>(
 
 // Edits where bits are wrong. A granted edit keeps them so: flipped back, the capture is that of the edit without them, if so it says.
 #[inline(never)]
-fn flipped<W: Write>(
-    out: &mut W,
-    flips: &[(usize, usize)],
-    spare: u8,
-) -> io::Result<Option<bool>> {
+fn flipped<W: Write>(out: &mut W, flips: &[(usize, usize)], spare: u8) -> io::Result<Option<bool>> {
     let mut capture = buffer_sizes::large_space();
     flipped_in(out, flips, spare, &mut capture[..ONE_BYTES])
 }
@@ -385,6 +382,7 @@ fn put_word(g: &mut Generator, w: usize, capture: &mut [u8]) {
 // Every slot, filler too.
 fn fill_words(seed: u64, capture: &mut [u8]) {
     let mut g = Generator::start(seed);
+    // Kept: a word's bytes stand apart in a capture, so a word is named by its number `w`; there is no slice of words to go through.
     for w in 0..ONE_WORDS {
         put_word(&mut g, w, capture);
     }
@@ -393,7 +391,10 @@ fn fill_words(seed: u64, capture: &mut [u8]) {
 fn edit_twice<W: Write>(out: &mut W, block: u64, capture: &mut [u8]) -> io::Result<()> {
     fill_words(400 + block % 100000, capture);
     let before = test_data::digest(capture);
-    writeln!(out, "never coded block {block} before: capture {before:016x}")?;
+    writeln!(
+        out,
+        "never coded block {block} before: capture {before:016x}"
+    )?;
     write!(out, "never coded block {block}")?;
     Call::stated(1, block).edit(out, capture)?;
     write!(out, "never coded block {block} again")?;

@@ -30,6 +30,7 @@ pub fn bit(i: usize) -> [u8; 16]
 pub fn flip_in_all(capture: &mut [u8])
     ensures { capture.new ≡ flipped_in_all capture.old }
 {
+    // Kept: a word's bytes stand apart in a capture, so a word is named by its number `w`; there is no slice of words to go through.
     for w in 0..capture.len() / sizes::WORD_BYTES {
         flip(capture, w, bit((w % 128 * 37 + 11) % 128));
     }

@@ -6,6 +6,11 @@ use test_data::Generator;
 // The groups of places that are all data, and a window of all places.
 const SPACE: usize = sizes::PAIR_BYTES * (sizes::PLACES as usize) / 2;
 
+// A space of zeros. It is made here, so that no other function is checked with an array of so many elements before its eyes.
+fn space() -> [u8; SPACE] {
+    [0; SPACE]
+}
+
 // A case: its number, what is asked for, the lengths of the buffers, and the low four bits of the groups' last byte.
 #[derive(Clone, Copy)]
 struct Case {
@@ -32,16 +37,19 @@ fn set_low(low: u8, groups: &mut [u8]) {
 
 impl Case {
     fn name<W: Write>(self, out: &mut W) -> io::Result<()> {
-        write!(out, "case {}: C {} f {} n {}", self.number, self.c, self.f, self.n)?;
-        writeln!(out, " groups {} window {} low {}", self.groups, self.window, self.low)
+        write!(
+            out,
+            "case {}: C {} f {} n {}",
+            self.number, self.c, self.f, self.n
+        )?;
+        writeln!(
+            out,
+            " groups {} window {} low {}",
+            self.groups, self.window, self.low
+        )
     }
 
-    fn map_in<W: Write>(
-        self,
-        out: &mut W,
-        groups: &mut [u8],
-        window: &mut [u8],
-    ) -> io::Result<()> {
+    fn map_in<W: Write>(self, out: &mut W, groups: &mut [u8], window: &mut [u8]) -> io::Result<()> {
         set(500 + self.number % 100, groups);
         set_low(self.low, groups);
         set(600 + self.number % 100, window);
@@ -51,8 +59,8 @@ impl Case {
     }
 
     fn map<W: Write>(self, out: &mut W) -> io::Result<()> {
-        let mut a = [0; SPACE];
-        let mut b = [0; SPACE];
+        let mut a = space();
+        let mut b = space();
         let groups = self.groups.min(SPACE);
         let window = self.window.min(SPACE);
         self.map_in(out, &mut a[..groups], &mut b[..window])
@@ -73,8 +81,8 @@ impl Case {
     }
 
     fn unmap<W: Write>(self, out: &mut W) -> io::Result<()> {
-        let mut a = [0; SPACE];
-        let mut b = [0; SPACE];
+        let mut a = space();
+        let mut b = space();
         let groups = self.groups.min(SPACE);
         let window = self.window.min(SPACE);
         self.unmap_in(out, &mut a[..groups], &mut b[..window])
@@ -82,11 +90,9 @@ impl Case {
 }
 
 pub fn cases<W: Write>(out: &mut W) -> io::Result<()> {
-    let mut number = 0;
-    for (c, f, n, groups, window, low) in &CASES {
-        number = (number + 1) % 100;
+    for (k, (c, f, n, groups, window, low)) in CASES.iter().enumerate() {
         let case = Case {
-            number,
+            number: (k as u64).wrapping_add(1),
             c: *c,
             f: *f,
             n: *n,
