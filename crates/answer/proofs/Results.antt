@@ -2,16 +2,18 @@
 use mathlib.Core.Bool.{Bool, true, false}
 use mathlib.Core.Path.{◌≡◌, refl, sym, ap, ◌∙◌}
 use lib.Dec.{eqb}
-use Rattle.std.specs.Prelude.{ℕ, cond, get_or, [], ◌∷◌, Result, Ok, Err, IfOk, IfErr}
+use Rattle.std.specs.Prelude.{ℕ, cond, get_or, [], ◌∷◌, Result, Ok, Err, IfOk, IfErr, IsErrAnd}
 use Rattle.std.proofs.lemmas.Result.{IfOk-at_ok, IfErr-at_err}
 use Rattle.answer.specs.Numbers.{all_done}
-use Rattle.answer.specs.Outcomes.{Outcome}
-use Rattle.answer.specs.Refusals.{number_of, refused_at, tested, answered}
+use Rattle.answer.specs.Outcomes.{Outcome, written}
+use Rattle.answer.specs.Rows.{refused}
+use Rattle.answer.specs.Refusals.{refusal_number, refused_at, tested, answered}
 use Rattle.answer.specs.declared.Answer.{Answer}
 use Rattle.answer.specs.declared.refusal.Refusal.{Refusal}
 use Rattle.answer.specs.declared.refusal.Refusal.TheVariants.{OutsideSet, WrongLength, SpareBit, BeyondRepair, FillerNotZero, WrongMbas, WrongCrc, PadNotZero}
 use Rattle.answer.specs.declared.refusal.Refusal.TheVariants.{ListedFails, NotArchive, BadEntry, Misplaced}
 use Rattle.answer.specs.declared.refusal.Refused.{Refused}
+use Rattle.answer.proofs.Meets.{meets_refused}
 
 -- the test refused
 pub test_held : {b : Bool} (r : Refused) {e : Refused} → Err e ≡ tested b r → (b ≡ true) × (r ≡ e)
@@ -37,7 +39,7 @@ refusal_by n =
     get_or (Misplaced ∷ OutsideSet ∷ WrongLength ∷ SpareBit ∷ BeyondRepair ∷ FillerNotZero ∷ WrongMbas ∷ WrongCrc ∷ PadNotZero ∷ ListedFails
     ∷ NotArchive ∷ BadEntry ∷ []) n Misplaced
 
-by_number : (r : Refusal) → refusal_by (number_of r) ≡ r
+by_number : (r : Refusal) → refusal_by (refusal_number r) ≡ r
 unfolding refusal_by
 by_number OutsideSet = refl
 by_number WrongLength = refl
@@ -53,19 +55,19 @@ by_number BadEntry = refl
 by_number Misplaced = refl
 
 -- no refusal's number is 0
-not_done : (r : Refusal) → eqb (number_of r) all_done ≡ false
-not_done OutsideSet = refl
-not_done WrongLength = refl
-not_done SpareBit = refl
-not_done BeyondRepair = refl
-not_done FillerNotZero = refl
-not_done WrongMbas = refl
-not_done WrongCrc = refl
-not_done PadNotZero = refl
-not_done ListedFails = refl
-not_done NotArchive = refl
-not_done BadEntry = refl
-not_done Misplaced = refl
+no_number : (r : Refusal) → eqb (refusal_number r) all_done ≡ false
+no_number OutsideSet = refl
+no_number WrongLength = refl
+no_number SpareBit = refl
+no_number BeyondRepair = refl
+no_number FillerNotZero = refl
+no_number WrongMbas = refl
+no_number WrongCrc = refl
+no_number PadNotZero = refl
+no_number ListedFails = refl
+no_number NotArchive = refl
+no_number BadEntry = refl
+no_number Misplaced = refl
 
 -- the result that has the numbers
 result_by : Answer → Result ℕ Refused
@@ -74,7 +76,7 @@ result_by a = cond (eqb a.number all_done) (Ok a.count) (Err (refused_at (refusa
 by_numbers : (x : Result ℕ Refused) → result_by (answered x) ≡ x
 unfolding result_by
 by_numbers (Ok c) = refl
-by_numbers (Err r) = rw (not_done r.refusal, by_number r.refusal)
+by_numbers (Err r) = rw (no_number r.refusal, by_number r.refusal)
 
 -- ONE RESULT: two results with the same numbers are equal
 pub same_numbers : {x y : Result ℕ Refused} → answered x ≡ answered y → x ≡ y
@@ -84,3 +86,21 @@ same_numbers {x} {y} e = sym (by_numbers x) ∙ ap result_by e ∙ by_numbers y
 pub only_result : {B : Type 0} {says : Answer} {leaves : B} {x y : Result ℕ Refused} {out out' : B} → Outcome says leaves (answered x) out
     → Outcome says leaves (answered y) out' → (x ≡ y) × (out ≡ out')
 only_result p q = (same_numbers (p.told ∙ sym q.told), p.kept ∙ sym q.kept)
+
+-- ---- a call that is refused
+
+-- what is refused is not done
+pub not_done : (r : Refused) → (answered (Err r)).number ≡ all_done → ⊥
+not_done r z =
+    let e : ◌≡◌ {A = Result ℕ Refused} (Err (refused_at r.refusal 0)) (Ok 0) = same_numbers (ap (λ (n : ℕ). refused n 0) z) in
+    IfErr-at_err (λ _. ⊥) (sym e) tt
+
+-- the error is handed on as it is
+pub handed_on : {x : Result ℕ Refused} {e : Refused} → IsErrAnd x (λ y. y ≡ e) → x ≡ Err e
+handed_on {x = Ok c} h = absurd h
+handed_on {x = Err r} h = ap Err h
+
+-- the contract of a call that is refused, whatever it would have written
+pub meets_error : {B : Type 0} {says : Answer} (x : Result ℕ Refused) (e : Refused) {old : B} (new : B) → IsErrAnd x (λ y. y ≡ e) → answered (Err e) ≡ says
+    → Outcome says (written says new old) (answered x) old
+meets_error {B} {says} x e {old} new h s = rw (handed_on h) (meets_refused new s (not_done e))

@@ -10,19 +10,19 @@ use Rattle.answer.specs.declared.refusal.Refusal.TheVariants.{ListedFails, NotAr
 use Rattle.answer.specs.declared.refusal.Refused.{Refused}
 
 -- the table's number
-abbrev pub number_of : Refusal → ℕ
-number_of OutsideSet = outside_set
-number_of WrongLength = wrong_length
-number_of SpareBit = spare_bit
-number_of BeyondRepair = beyond_repair
-number_of FillerNotZero = filler_not_zero
-number_of WrongMbas = wrong_mbas
-number_of WrongCrc = wrong_crc
-number_of PadNotZero = pad_not_zero
-number_of ListedFails = listed_fails
-number_of NotArchive = not_archive
-number_of BadEntry = bad_entry
-number_of Misplaced = misplaced
+abbrev pub refusal_number : Refusal → ℕ
+refusal_number OutsideSet = outside_set
+refusal_number WrongLength = wrong_length
+refusal_number SpareBit = spare_bit
+refusal_number BeyondRepair = beyond_repair
+refusal_number FillerNotZero = filler_not_zero
+refusal_number WrongMbas = wrong_mbas
+refusal_number WrongCrc = wrong_crc
+refusal_number PadNotZero = pad_not_zero
+refusal_number ListedFails = listed_fails
+refusal_number NotArchive = not_archive
+refusal_number BadEntry = bad_entry
+refusal_number Misplaced = misplaced
 
 abbrev pub refused_at : Refusal → ℕ → Refused
 refused_at r p = record { refusal = r; place = p }
@@ -39,4 +39,4 @@ found_at r None = Ok tt
 -- the numbers that a result stands for: done with its count, or refused by a number at a place
 abbrev pub answered : Result ℕ Refused → Answer
 answered (Ok c) = done c
-answered (Err r) = refused (number_of r.refusal) r.place
+answered (Err r) = refused (refusal_number r.refusal) r.place

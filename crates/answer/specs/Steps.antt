@@ -1,5 +1,5 @@
 -- How code comes to a table's answer: it tests in turn. The laws are those of proofs/Turns.antt. Assumes nothing: these are definitions.
-use Rattle.std.specs.Prelude.{ℕ, suc, Bool, false, cond, ◌≡◌, List, [], ◌∷◌, ltb}
+use Rattle.std.specs.Prelude.{ℕ, suc, Bool, false, cond, ◌≡◌, List, [], ◌∷◌, Option, Some, None, ltb}
 use Rattle.prelude.specs.Loops.{first}
 use Rattle.answer.specs.Rows.{Row, whole, buffers, each, refused, buffer_place}
 use Rattle.answer.specs.declared.Answer.{Answer}
@@ -18,6 +18,10 @@ row_then (each k n h) next = cond (ltb (first h n) n) (refused k (first h n)) ne
 unfoldable pub in_turn : List Row → Answer → Answer
 in_turn [] next = next
 in_turn (r ∷ rows) next = row_then r (in_turn rows next)
+
+-- a search that code makes: the first of n places that p picks, if one is picked
+unfoldable pub first_found : (ℕ → Bool) → ℕ → Option ℕ
+first_found p n = cond (ltb (first p n) n) (Some (first p n)) None
 
 -- no row holds, test by test: what a call that goes on has shown
 unfoldable pub NoFault : List Bool → Type 0

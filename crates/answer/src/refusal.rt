@@ -1,6 +1,6 @@
 // Why a call is refused.
 ghost use Rattle.std.specs.Prelude.{◌≡◌};
-ghost use Rattle.answer.specs.Refusals.{number_of, refused_at};
+ghost use Rattle.answer.specs.Refusals.{refusal_number, refused_at};
 
 use std::error::Error;
 use std::fmt;
@@ -25,7 +25,7 @@ pub enum Refusal {
 impl Refusal {
     // The refusal's number in the table.
     pub fn number(self) -> u64
-        ensures { result ≡ number_of self }
+        ensures { result ≡ refusal_number self }
     {
         match self {
             Refusal::OutsideSet => 1,

@@ -4,7 +4,7 @@ use native.Mathlib.Omega.{arith}
 use Rattle.std.specs.Prelude.{ℕ, Result, Ok, Err, IsErrAnd}
 use Rattle.answer.specs.Numbers.{all_done}
 use Rattle.answer.specs.Outcomes.{Outcome, written}
-use Rattle.answer.specs.Refusals.{number_of, answered}
+use Rattle.answer.specs.Refusals.{refusal_number, answered}
 use Rattle.answer.specs.declared.Answer.{Answer}
 use Rattle.answer.specs.declared.refusal.Refusal.{Refusal}
 use Rattle.answer.specs.declared.refusal.Refusal.TheVariants.{OutsideSet, WrongLength, SpareBit, BeyondRepair, FillerNotZero, WrongMbas, WrongCrc, PadNotZero}
@@ -18,7 +18,7 @@ handed_on {x = Ok c} h = absurd h
 handed_on {x = Err r} h = ap Err h
 
 -- no refusal's number is 0
-not_done : (r : Refusal) → number_of r ≡ all_done → ⊥
+not_done : (r : Refusal) → refusal_number r ≡ all_done → ⊥
 not_done OutsideSet e = absurd (omega arith)
 not_done WrongLength e = absurd (omega arith)
 not_done SpareBit e = absurd (omega arith)

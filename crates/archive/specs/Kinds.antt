@@ -5,10 +5,10 @@ use Rattle.archive.specs.declared.kind.Kind.TheVariants.{Information, Parity, Ca
 use Rattle.archive.specs.declared.kind.UnknownKind.{UnknownKind}
 
 -- the number of a kind
-abbrev pub number_of : Kind → ℕ
-number_of Information = 1
-number_of Parity = 2
-number_of Capture = 3
+abbrev pub number_of_kind : Kind → ℕ
+number_of_kind Information = 1
+number_of_kind Parity = 2
+number_of_kind Capture = 3
 
 -- the kind that has a number
 abbrev pub kind_of : ℕ → Result Kind UnknownKind

@@ -1,6 +1,6 @@
 // What a body of a capture file is.
 ghost use Rattle.std.specs.Prelude.{◌≡◌};
-ghost use Rattle.archive.specs.Kinds.{number_of, kind_of};
+ghost use Rattle.archive.specs.Kinds.{number_of_kind, kind_of};
 
 use std::error::Error;
 use std::fmt;
@@ -21,7 +21,7 @@ pub struct UnknownKind {
 impl Kind {
     // The kind's number in the table.
     pub fn number(self) -> u64
-        ensures { result ≡ number_of self }
+        ensures { result ≡ number_of_kind self }
     {
         match self {
             Kind::Information => 1,

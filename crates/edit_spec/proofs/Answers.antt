@@ -18,7 +18,7 @@ use Rattle.answer.specs.Numbers.{all_done, wrong_length, spare_bit}
 use Rattle.answer.specs.Rows.{Row, done, refused, wrong, FirstFault, row_number, answer_of, rising}
 use Rattle.answer.specs.Demand1.{Exactly, Demand1}
 use Rattle.answer.specs.Outcomes.{Outcome}
-use Rattle.answer.specs.Refusals.{number_of, refused_at, found_at, answered}
+use Rattle.answer.specs.Refusals.{refusal_number, refused_at, found_at, answered}
 use Rattle.answer.specs.declared.refusal.Refusal.{Refusal}
 use Rattle.answer.specs.declared.refusal.Refusal.TheVariants.{ListedFails}
 use Rattle.answer.specs.declared.refusal.Refused.{Refused}
@@ -49,7 +49,7 @@ unfolding rising edit_early_rows row_number
 edit_early_rise N b bits parity cap list spare = refl
 
 -- no refusal's number is 0
-pub refused_some : (e : Refused) → number_of e.refusal ≡ all_done → ⊥
+pub refused_some : (e : Refused) → refusal_number e.refusal ≡ all_done → ⊥
 refused_some e h =
     clash refl (ap is_err (same_numbers {x = Err (refused_at e.refusal 0)} {y = Ok 0} (ap (λ (k : ℕ). refused k 0) h)))
 

@@ -10,7 +10,7 @@ use lib.Dec.{ltb}
 use Rattle.std.specs.Prelude.{Result, Ok, Err, IfOk}
 use Rattle.std.proofs.lemmas.Result.{IfOk-at_ok}
 use Rattle.answer.specs.Numbers.{all_done, outside_set}
-use Rattle.answer.specs.Refusals.{refused_at, number_of, answered}
+use Rattle.answer.specs.Refusals.{refused_at, refusal_number, answered}
 use Rattle.answer.specs.declared.refusal.Refused.{Refused}
 use Rattle.answer.specs.declared.refusal.Refusal.{Refusal}
 use Rattle.answer.specs.declared.refusal.Refusal.TheVariants.{OutsideSet}
@@ -39,7 +39,7 @@ pub kind_is : (c j : ℕ) {d b : Bool} → d ≡ is_data c j → d ≡ b → is_
 kind_is c j e h = sym e ∙ h
 
 -- no refusal has the number of what is done
-pub never_done : (r : Refusal) → number_of r ≡ all_done → ⊥
+pub never_done : (r : Refusal) → refusal_number r ≡ all_done → ⊥
 never_done r n =
     let s : answered (Err (refused_at r 0)) ≡ answered (Ok 0) = rw n refl in
     shown (Err (refused_at r 0)) (same_numbers s) (tt {0})
@@ -85,7 +85,7 @@ module _ (c j : ℕ) where
   runs_refused e h p =
       rw in_turn_law (by (outside_place c j) (ap (λ (t : Told). t.number) h ∙ number_of_run (outside_place c j) (kind_at c j) (last_of_run c j)))
     where
-      by : (b : Bool) → number_of e.refusal ≡ cond b outside_set all_done → answered (Err e) ≡ cond b (refused outside_set 0) (done (runs_from c j))
+      by : (b : Bool) → refusal_number e.refusal ≡ cond b outside_set all_done → answered (Err e) ≡ cond b (refused outside_set 0) (done (runs_from c j))
       by true n = rw (p, n) refl
       by false n = absurd (never_done e.refusal n)
 

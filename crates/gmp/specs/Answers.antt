@@ -2,7 +2,7 @@
 use Rattle.std.specs.Prelude.{ℕ, Bool, cond, ◌||◌, List, [], ◌∷◌, Result, Ok, Err, ltb}
 use Rattle.answer.specs.Numbers.{all_done, outside_set}
 use Rattle.answer.specs.Rows.{Row, answer_of, whole}
-use Rattle.answer.specs.Refusals.{number_of}
+use Rattle.answer.specs.Refusals.{refusal_number}
 use Rattle.answer.specs.declared.Answer.{Answer}
 use Rattle.answer.specs.declared.refusal.Refused.{Refused}
 use Rattle.gmp.specs.Places.{is_data, kind_number, kind_at}
@@ -23,7 +23,7 @@ pub record Told : Type 0 where
 
 abbrev pub told : Result Run Refused → Told
 told (Ok r) = record { number = all_done; kind = kind_number r.kind; last = r.last }
-told (Err r) = record { number = number_of r.refusal; kind = kind_number Stuff; last = 0 }
+told (Err r) = record { number = refusal_number r.refusal; kind = kind_number Stuff; last = 0 }
 
 -- "A refused run request also gives kind stuff and last place 0."
 unfoldable pub run_of : ℕ → ℕ → Told

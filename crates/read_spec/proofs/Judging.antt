@@ -14,7 +14,7 @@ use Rattle.answer.specs.Demand1.{Exactly, Demand1}
 use Rattle.answer.specs.Outcomes.{Outcome, written}
 use Rattle.answer.specs.Steps.{NoFault, RowPassed, Passed}
 use Rattle.answer.specs.declared.Answer.{Answer}
-use Rattle.answer.specs.Refusals.{number_of, refused_at, found_at, answered}
+use Rattle.answer.specs.Refusals.{refusal_number, refused_at, found_at, answered}
 use Rattle.answer.specs.declared.refusal.Refusal.{Refusal}
 use Rattle.answer.specs.declared.refusal.Refused.{Refused}
 use Rattle.answer.proofs.Results.{same_numbers}
@@ -41,10 +41,10 @@ none_found r x h = IfOk-at_ok (λ _. x ≡ None) (sym h) (shown x)
     shown None = refl
 
 -- it found a place, and the call is refused there
-pub place_found : (r : Refusal) (x : Option ℕ) (next : Answer) {e : Refused} → Err e ≡ found_at r x → answered (Err e) ≡ refused_where (number_of r) x next
-place_found r x next h = IfErr-at_err (λ e. answered (Err e) ≡ refused_where (number_of r) x next) (sym h) (shown x)
+pub place_found : (r : Refusal) (x : Option ℕ) (next : Answer) {e : Refused} → Err e ≡ found_at r x → answered (Err e) ≡ refused_where (refusal_number r) x next
+place_found r x next h = IfErr-at_err (λ e. answered (Err e) ≡ refused_where (refusal_number r) x next) (sym h) (shown x)
   where
-    shown : (y : Option ℕ) → IfErr (found_at r y) (λ e. answered (Err e) ≡ refused_where (number_of r) y next)
+    shown : (y : Option ℕ) → IfErr (found_at r y) (λ e. answered (Err e) ≡ refused_where (refusal_number r) y next)
     shown (Some p) = refl
     shown None = tt
 
