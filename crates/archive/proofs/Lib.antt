@@ -1,4 +1,3 @@
 -- The laws of a call that refuses, and that each contract has one answer.
 pub mod Beginning
-pub mod Refusing
 pub mod Unique

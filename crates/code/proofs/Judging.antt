@@ -28,12 +28,6 @@ pub code_rise : (N m0 info par cap : ℕ) → rising 0 (code_rows N m0 info par 
 unfolding rising code_rows row_number
 code_rise N m0 info par cap = refl
 
--- what is refused is not done
-pub not_done : (r : Refused) → (answered (Err r)).number ≡ all_done → ⊥
-not_done r z =
-    let e : ◌≡◌ {A = Result ℕ Refused} (Err (refused_at r.refusal 0)) (Ok 0) = same_numbers (ap (λ (n : ℕ). refused n 0) z) in
-    IfErr-at_err (λ _. ⊥) (sym e) tt
-
 module _ (N m0 : ℕ) (info par cap : List ℕ) where
   abbrev rows : List Row
   rows = code_rows N m0 (length info) (length par) (length cap)

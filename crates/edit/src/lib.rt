@@ -7,6 +7,7 @@ ghost use Rattle.bits.specs.Bits.{bit_at, pack};
 ghost use Rattle.answer.specs.Outcomes.{Outcome};
 ghost use Rattle.answer.specs.Rows.{answer_of};
 ghost use Rattle.answer.specs.Refusals.{answered};
+ghost use Rattle.answer.specs.Steps.{first_found};
 ghost use Rattle.hamming.specs.Code.{checks_of};
 ghost use Rattle.hamming_matrix.specs.Steps.{tail_table};
 ghost use Rattle.hamming_table.specs.Steps.{byte_table};
@@ -20,7 +21,7 @@ ghost use Rattle.line.specs.Words.{fec_in};
 ghost use Rattle.edit_spec.specs.Edit.{fec_of, block_from, change, crc_change, element_fec, element_local, listed, fails, client_spare_set, edit_early_rows, edit_answer};
 ghost use Rattle.edit_spec.specs.Edit.{edit_leaves};
 ghost use Rattle.edit_spec.specs.Steps.{AcceptedEdit, first_element, stretch_to, new_element, field_element, with_field, crc_bit, with_crc, remade};
-ghost use Rattle.edit_spec.specs.Steps.{first_found, FirstIn, OwnWords, Begun, Passing, PassedOn, WordPassed};
+ghost use Rattle.edit_spec.specs.Steps.{FirstIn, OwnWords, Begun, Passing, PassedOn, WordPassed};
 
 use answer::{Refusal, Refused};
 use std::ops::Range;

@@ -22,18 +22,18 @@ use Rattle.answer.specs.Refusals.{refusal_number, refused_at, found_at, answered
 use Rattle.answer.specs.declared.refusal.Refusal.{Refusal}
 use Rattle.answer.specs.declared.refusal.Refusal.TheVariants.{ListedFails}
 use Rattle.answer.specs.declared.refusal.Refused.{Refused}
-use Rattle.answer.specs.Steps.{row_then, in_turn, NoFault, RowPassed, Passed}
+use Rattle.answer.specs.Steps.{row_then, in_turn, NoFault, RowPassed, Passed, first_found}
 use Rattle.answer.specs.declared.Answer.{Answer}
 use Rattle.answer.proofs.Table.{exactly, demand_1}
 use Rattle.answer.proofs.Buffers.{which_buffer}
 use Rattle.answer.proofs.Turns.{in_turn_law, passed, early_refused, early_passed, right_length, length_right}
-use Rattle.answer.proofs.Results.{same_numbers}
+use Rattle.answer.proofs.Results.{same_numbers, not_done}
 use Rattle.answer.proofs.Meets.{meets_done, meets_refused}
 use Rattle.sizes.specs.Sizes.{block_bytes, parity_bytes, list_length, words, blocks_of, capture_length}
 use Rattle.line.specs.Captures.{super_allowed}
 use Rattle.line.proofs.CaptureLaws.{frames_in, all_frames}
 use Rattle.edit_spec.specs.Edit.{listed, client_spare_set, fails, edit_early_rows, edit_late_rows, edit_rows, edit_answer, edited, edit_leaves}
-use Rattle.edit_spec.specs.Steps.{AcceptedEdit, Passing, first_found}
+use Rattle.edit_spec.specs.Steps.{AcceptedEdit, Passing}
 use Rattle.edit_spec.proofs.Passes.{passing_capture, passing_list}
 
 -- ---- the seven spare bits are the low seven of the last byte
@@ -47,11 +47,6 @@ spare_test bits x e h =
 edit_early_rise : (N b bits parity cap list : ℕ) (spare : Bool) → rising 0 (edit_early_rows N b bits parity cap list spare) ≡ true
 unfolding rising edit_early_rows row_number
 edit_early_rise N b bits parity cap list spare = refl
-
--- no refusal's number is 0
-pub refused_some : (e : Refused) → refusal_number e.refusal ≡ all_done → ⊥
-refused_some e h =
-    clash refl (ap is_err (same_numbers {x = Err (refused_at e.refusal 0)} {y = Ok 0} (ap (λ (k : ℕ). refused k 0) h)))
 
 -- ---- a search: it refuses at the first place that is picked, or nothing is picked
 
@@ -164,7 +159,7 @@ module _ (N b : ℕ) (bits parity cap list : List ℕ) where
       nine_outcome {e} h q =
           let f = found_refused (fails N b cap) (words N) ListedFails (h ∙ ap (found_at ListedFails) found) in
           meets_refused (edited N b bits parity cap list) (ap answered q ∙ ap (λ (y : Refused). answered (Err y)) (sym f.1) ∙ sym (late ∙ rw f.0))
-          (λ z. refused_some e (ap (λ (y : Answer). y.number) (sym (ap answered q)) ∙ z))
+          (λ z. not_done e (ap (λ (y : Answer). y.number) (sym (ap answered q)) ∙ z))
 
       pub done_outcome : {u : Unit {0}} {c : ℕ} {cap' list' : List ℕ} → Ok u ≡ found_at ListedFails o → Passing N b bits parity cap list (words N) cap' list' c
           → Outcome (edit_answer N b bits parity cap list) (edit_leaves N b bits parity cap list) (done c) (cap', list')

@@ -16,6 +16,7 @@ use Rattle.std.specs.Cmp.{nat_cmp_is}
 use Rattle.prelude.specs.Loops.{count}
 use Rattle.prelude.proofs.LoopLaws.{first_is, first_none}
 use Rattle.prelude.proofs.Common.{clash, and_left, and_right, by_bound}
+use Rattle.answer.specs.Steps.{first_found}
 use Rattle.hamming.specs.Code.{checks_of}
 use Rattle.line_order.specs.Order.{word_in}
 use Rattle.sizes.specs.Sizes.{block_bits, fec_blocks, element_bits, super_elements, fec_elements, info_elements, words, blocks_of, tail_elements}
@@ -23,7 +24,7 @@ use Rattle.line.specs.Slots.{slot_of, delay, element_in, holds}
 use Rattle.line.proofs.SlotLaws.{held}
 use Rattle.edit_spec.specs.Edit.{fec_of, block_from, element_fec, element_local, is_pad, touches, listed, fails}
 use Rattle.edit_spec.specs.Listed.{Holding}
-use Rattle.edit_spec.specs.Steps.{first_found, FirstIn, first_element, stretch_from, stretch_to, InTail, InBlock, Between, OwnWords}
+use Rattle.edit_spec.specs.Steps.{FirstIn, first_element, stretch_from, stretch_to, InTail, InBlock, Between, OwnWords}
 use Rattle.edit_spec.proofs.Touching.{touches_at, touches_some, element_tail, element_block, element_before, element_past}
 use Rattle.edit_spec.proofs.Picking.{In, count_few}
 

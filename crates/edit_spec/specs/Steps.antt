@@ -26,10 +26,6 @@ pub record AcceptedEdit (N b : ℕ) (bits parity cap list : List ℕ) : Type 0 w
   pub list_long : length list ≡ list_length
   pub no_spare : client_spare_set bits ≡ false
 
--- the first of n places that p picks, if one is picked
-unfoldable pub first_found : (ℕ → Bool) → ℕ → Option ℕ
-first_found p n = cond (ltb (first p n) n) (Some (first p n)) None
-
 -- of the numbers from .. to - 1 the first that p picks, if one is picked
 abbrev pub FirstIn : (ℕ → Bool) → ℕ → ℕ → Option ℕ → Type 0
 FirstIn p from to r =

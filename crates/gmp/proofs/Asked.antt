@@ -16,7 +16,7 @@ use Rattle.answer.specs.declared.refusal.Refusal.{Refusal}
 use Rattle.answer.specs.declared.refusal.Refusal.TheVariants.{OutsideSet}
 use Rattle.answer.specs.Rows.{done, refused}
 use Rattle.answer.specs.Steps.{in_turn, row_then}
-use Rattle.answer.proofs.Results.{same_numbers}
+use Rattle.answer.proofs.Results.{same_numbers, not_done}
 use Rattle.answer.proofs.Turns.{in_turn_law}
 use Rattle.sizes.specs.Sizes.{places}
 use Rattle.gmp.specs.Places.{is_data, kind_number, kind_at}
@@ -37,15 +37,6 @@ run_ends c j r p e =
 -- what a test showed of the kind
 pub kind_is : (c j : ℕ) {d b : Bool} → d ≡ is_data c j → d ≡ b → is_data c j ≡ b
 kind_is c j e h = sym e ∙ h
-
--- no refusal has the number of what is done
-pub never_done : (r : Refusal) → refusal_number r ≡ all_done → ⊥
-never_done r n =
-    let s : answered (Err (refused_at r 0)) ≡ answered (Ok 0) = rw n refl in
-    shown (Err (refused_at r 0)) (same_numbers s) (tt {0})
-  where
-    shown : (x : Result ℕ Refused) → x ≡ Ok 0 → IfOk x (λ _. ⊥) → ⊥
-    shown x h y = IfOk-at_ok (λ _. ⊥) h y
 
 -- the number of what a run request answers
 number_of_run : (b : Bool) (k l : ℕ)
@@ -87,7 +78,7 @@ module _ (c j : ℕ) where
     where
       by : (b : Bool) → refusal_number e.refusal ≡ cond b outside_set all_done → answered (Err e) ≡ cond b (refused outside_set 0) (done (runs_from c j))
       by true n = rw (p, n) refl
-      by false n = absurd (never_done e.refusal n)
+      by false n = absurd (not_done e n)
 
   pub runs_told : {n : ℕ} → Place c j → n ≡ runs_from c j → answered (Ok n) ≡ runs_of c j
   unfolding runs_of in_turn row_then
@@ -109,23 +100,23 @@ run_counts c j l e = ⊎_elim last more (eq-or-lt_of_le e.to)
     more h = runs_more c j l e h ∙ ap suc (sym (rw (lt-ltb l places h)))
 
 -- what the count keeps: the run that ends at l was counted, and what is behind it is left
-pub record Counted (c j n l : ℕ) : Type 0 where
+pub record CountedTo (c j n l : ℕ) : Type 0 where
   pub count : c ≤ places
   pub from : 1 ≤ l
   pub to : l ≤ places
   pub all : n + behind c l ≡ runs_from c j
 
 module _ (c j : ℕ) where
-  pub counted_first : (r : Run) → told (Ok r) ≡ run_of c j → Counted c j 1 r.last
-  counted_first r e =
+  pub counted_to_first : (r : Run) → told (Ok r) ≡ run_of c j → CountedTo c j 1 r.last
+  counted_to_first r e =
       let p = run_place c j r e in
       let h = run_ends c j r p e in
       record { count = p.count; from = omega (arith, p.from, h.from); to = h.to; all = omega (arith, run_counts c j r.last h) }
 
   -- one run more: what it is behind, and where it ends
-  pub counted_more : (n l : ℕ) → Counted c j n l → l < places → Place c (l + 1) × (l < last_of_run c (l + 1)) × Counted c j (n + 1) (last_of_run c (l + 1))
+  pub counted_to_more : (n l : ℕ) → CountedTo c j n l → l < places → Place c (l + 1) × (l < last_of_run c (l + 1)) × CountedTo c j (n + 1) (last_of_run c (l + 1))
   unfolding behind
-  counted_more n l k h =
+  counted_to_more n l k h =
       let s : l + 1 ≡ suc l = omega arith in
       let p : Place c (l + 1) = record { count = k.count; from = omega arith; to = omega arith } in
       let e : EndsRun c (l + 1) (last_of_run c (l + 1)) = last_ends c (l + 1) p.to in
@@ -134,9 +125,9 @@ module _ (c j : ℕ) where
       let all : n + 1 + behind c (last_of_run c (l + 1)) ≡ runs_from c j = omega (arith, w, ap (runs_from c) s, m) in
       (p, omega (arith, e.from), record { count = k.count; from = omega (arith, e.from); to = e.to; all = all })
 
-  pub counted_all : (n l : ℕ) → Counted c j n l → places ≤ l → n ≡ runs_from c j
+  pub counted_to_all : (n l : ℕ) → CountedTo c j n l → places ≤ l → n ≡ runs_from c j
   unfolding behind
-  counted_all n l k h = omega (arith, rw (le-ltb l places h) at k.all)
+  counted_to_all n l k h = omega (arith, rw (le-ltb l places h) at k.all)
 
-  pub counted_few : (n l : ℕ) → Counted c j n l → n ≤ suc places
-  counted_few n l k = omega (arith, k.all, runs_few c j)
+  pub counted_to_few : (n l : ℕ) → CountedTo c j n l → n ≤ suc places
+  counted_to_few n l k = omega (arith, k.all, runs_few c j)

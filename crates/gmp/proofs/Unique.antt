@@ -8,13 +8,12 @@ use Rattle.std.specs.Prelude.{Result, Ok, Err, IfErr}
 use Rattle.std.proofs.lemmas.Result.{IfErr-at_err}
 use Rattle.answer.specs.Refusals.{answered}
 use Rattle.answer.specs.declared.refusal.Refused.{Refused}
-use Rattle.answer.proofs.Results.{same_numbers}
+use Rattle.answer.proofs.Results.{same_numbers, not_done}
 use Rattle.gmp.specs.Places.{kind_number}
 use Rattle.gmp.specs.Answers.{Told, told}
 use Rattle.gmp.specs.declared.told.Kind.{Kind}
 use Rattle.gmp.specs.declared.told.Kind.TheVariants.{Stuff, Data}
 use Rattle.gmp.specs.declared.told.Run.{Run}
-use Rattle.gmp.proofs.Asked.{never_done}
 use Rattle.gmp.proofs.run.Reads as run
 use Rattle.gmp.proofs.runs.Reads as runs
 use Rattle.gmp.proofs.data_in.Reads as data_in_law
@@ -38,8 +37,8 @@ told_once (Ok r) (Ok s) e p q =
 told_once (Err a) (Err b) e p q =
     let s : answered (Err a) ≡ answered (Err b) = rw (p, q, ap (λ (z : Told). z.number) e) in
     ap Err (same_refused (Err a) (same_numbers s) refl)
-told_once (Ok r) (Err b) e p q = absurd (never_done b.refusal (sym (ap (λ (z : Told). z.number) e)))
-told_once (Err a) (Ok s) e p q = absurd (never_done a.refusal (ap (λ (z : Told). z.number) e))
+told_once (Ok r) (Err b) e p q = absurd (not_done b (sym (ap (λ (z : Told). z.number) e)))
+told_once (Err a) (Ok s) e p q = absurd (not_done a (ap (λ (z : Told). z.number) e))
 
 pub one_run : (κs : _) (a : _) (x y : _) (s t : _) → run.Post κs a x s → run.Post κs a y t → x ≡ y
 one_run κs a x y s t p q = told_once x y (only p.0 q.0) p.1 q.1

@@ -44,6 +44,6 @@ module _ (l : Partial) {x : Option ℕ} (p : x ≡ option_flatten l.value) where
   unfolding so_far
   too_large {v} e h = rw (← p, e, lt-ltb places v h) refl
 
-  pub no_count : x ≡ None → refused outside_set 0 ≡ so_far l
+  pub no_digits : x ≡ None → refused outside_set 0 ≡ so_far l
   unfolding so_far
-  no_count e = rw (← p, e) refl
+  no_digits e = rw (← p, e) refl

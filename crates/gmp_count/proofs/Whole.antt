@@ -24,7 +24,7 @@ use Rattle.decimal.specs.Steps.{seen, next_at}
 use Rattle.decimal.proofs.Reading.{read, read_none, read_more}
 use Rattle.sizes.specs.Sizes.{places}
 use Rattle.gmp_count.specs.Count.{is_feed, first_length, no_count, count_of}
-use Rattle.gmp_count.specs.Steps.{too_much, nothing_read, next_of, step_of, step_at, more_of, counted, so_far}
+use Rattle.gmp_count.specs.Steps.{too_much, nothing_read, next_of, step_of, step_at, more_of, told_as_count, so_far}
 use Rattle.gmp_count.specs.declared.Partial.{Partial}
 
 -- ---- within the line
@@ -94,7 +94,7 @@ module _ (v : ℕ) where
       rw (le-ltb places v (omega arith), m)
 
   same_verdict : (n : ℕ) (d : Bool)
-      → counted (option_flatten (cond (ltb 0 n) (Some (seen too_much d v)) None)) ≡ cond (eqb n 0 || (not d || ltb places v)) (refused outside_set 0) (done v)
+      → told_as_count (option_flatten (cond (ltb 0 n) (Some (seen too_much d v)) None)) ≡ cond (eqb n 0 || (not d || ltb places v)) (refused outside_set 0) (done v)
   unfolding seen
   same_verdict zero d = refl
   same_verdict (suc n) false = rw (eqb-suc-zero n, lt-ltb 0 (suc n) (omega arith))

@@ -38,9 +38,9 @@ abbrev pub more_of : Partial → List ℕ → Partial
 more_of l s = upto (step_at s) l (length s)
 
 -- what was read, as a count: an empty line is none, nor is one that is not all digits, nor what is above P
-abbrev pub counted : Option ℕ → Answer
-counted None = refused outside_set 0
-counted (Some v) = cond (ltb places v) (refused outside_set 0) (done v)
+abbrev pub told_as_count : Option ℕ → Answer
+told_as_count None = refused outside_set 0
+told_as_count (Some v) = cond (ltb places v) (refused outside_set 0) (done v)
 
 unfoldable pub so_far : Partial → Answer
-so_far l = counted (option_flatten l.value)
+so_far l = told_as_count (option_flatten l.value)

@@ -14,6 +14,7 @@ use Rattle.bits.specs.Bits.{num, digit, bit_at, byte_of, pack, Bits}
 use Rattle.prelude.specs.Loops.{upto, first}
 use Rattle.prelude.proofs.Common.{by_bound}
 use Rattle.prelude.proofs.Lists.{get_d_tabulate}
+use Rattle.answer.specs.Steps.{first_found}
 use Rattle.bits.proofs.Numbers.{num_ext, num-zero, digit-num}
 use Rattle.bits.proofs.Packing.{bit_of_lt, bit_of_past, length-packs}
 use Rattle.crc.proofs.Changes.{crc_ext}
@@ -21,7 +22,7 @@ use Rattle.sizes.specs.Sizes.{info_bits, crc_bits, mbas_bits, mbas_from, fec_bit
 use Rattle.line.specs.Fec.{mbas_of}
 use Rattle.line.specs.Words.{super_in, fec_in}
 use Rattle.read_spec.specs.Read.{repaired, all_zero, mbas_differs, crc_differs, pad_differs}
-use Rattle.read_spec.specs.Steps.{first_found, sought_of, frame_of, mbas_off, crc_off, pad_off, block_taken, frames_to}
+use Rattle.read_spec.specs.Steps.{sought_of, frame_of, mbas_off, crc_off, pad_off, block_taken, frames_to}
 use Rattle.read_spec.specs.declared.BlockTally.{BlockTally}
 use Rattle.read_spec.proofs.Searching.{first_more, zero_all, zero_each}
 use Rattle.read_spec.proofs.Places.{frame_bit, frame_fec}

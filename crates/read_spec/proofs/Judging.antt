@@ -12,7 +12,7 @@ use Rattle.answer.specs.Numbers.{all_done, wrong_length, beyond_repair, filler_n
 use Rattle.answer.specs.Rows.{Row, done, refused, wrong, FirstFault, row_number, places_of, holds_at, first_of, answer_of, rising}
 use Rattle.answer.specs.Demand1.{Exactly, Demand1}
 use Rattle.answer.specs.Outcomes.{Outcome, written}
-use Rattle.answer.specs.Steps.{NoFault, RowPassed, Passed}
+use Rattle.answer.specs.Steps.{NoFault, RowPassed, Passed, first_found}
 use Rattle.answer.specs.declared.Answer.{Answer}
 use Rattle.answer.specs.Refusals.{refusal_number, refused_at, found_at, answered}
 use Rattle.answer.specs.declared.refusal.Refusal.{Refusal}
@@ -28,7 +28,7 @@ use Rattle.line.specs.Frames.{info_of, parity_of}
 use Rattle.line.specs.Words.{fec_in}
 use Rattle.line.proofs.CaptureLaws.{frames_in}
 use Rattle.read_spec.specs.Read.{repaired, is_beyond, is_filled, mbas_differs, crc_differs, pad_differs, is_seen, read_early_rows, read_late_rows, read_rows, read_answer, given, read_leaves}
-use Rattle.read_spec.specs.Steps.{AcceptedRead, first_found, refused_where, words_to, frames_to, verdict_of, late_answer, late_leaves}
+use Rattle.read_spec.specs.Steps.{AcceptedRead, refused_where, words_to, frames_to, verdict_of, late_answer, late_leaves}
 use Rattle.read_spec.specs.declared.WordTally.{WordTally}
 use Rattle.read_spec.specs.declared.BlockTally.{BlockTally}
 
@@ -41,8 +41,8 @@ none_found r x h = IfOk-at_ok (λ _. x ≡ None) (sym h) (shown x)
     shown None = refl
 
 -- it found a place, and the call is refused there
-pub place_found : (r : Refusal) (x : Option ℕ) (next : Answer) {e : Refused} → Err e ≡ found_at r x → answered (Err e) ≡ refused_where (refusal_number r) x next
-place_found r x next h = IfErr-at_err (λ e. answered (Err e) ≡ refused_where (refusal_number r) x next) (sym h) (shown x)
+pub found_place : (r : Refusal) (x : Option ℕ) (next : Answer) {e : Refused} → Err e ≡ found_at r x → answered (Err e) ≡ refused_where (refusal_number r) x next
+found_place r x next h = IfErr-at_err (λ e. answered (Err e) ≡ refused_where (refusal_number r) x next) (sym h) (shown x)
   where
     shown : (y : Option ℕ) → IfErr (found_at r y) (λ e. answered (Err e) ≡ refused_where (refusal_number r) y next)
     shown (Some p) = refl
@@ -70,12 +70,6 @@ tallied N m0 cap =
     (row_found wrong_mbas (mbas_differs m0 cap) (fec_blocks * N)
     (row_found wrong_crc (crc_differs cap) (fec_blocks * N)
     (row_found pad_not_zero (pad_differs cap) N refl))))
-
--- what is refused is not done
-pub not_done : (r : Refused) → (answered (Err r)).number ≡ all_done → ⊥
-not_done r z =
-    let e : ◌≡◌ {A = Result ℕ Refused} (Err (refused_at r.refusal 0)) (Ok 0) = same_numbers (ap (λ (n : ℕ). refused n 0) z) in
-    IfErr-at_err (λ _. ⊥) (sym e) tt
 
 module _ (N m0 : ℕ) (cap info par : List ℕ) where
   abbrev rows : List Row

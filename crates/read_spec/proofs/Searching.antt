@@ -17,6 +17,7 @@ use Rattle.prelude.specs.Loops.{first, count}
 use Rattle.prelude.proofs.Common.{by_bound, and_left, and_right}
 use Rattle.prelude.proofs.LoopLaws.{First, first_holds, first_is, first_none}
 use Rattle.prelude.proofs.Counting.{count_more, count_le}
+use Rattle.answer.specs.Steps.{first_found}
 use Rattle.hamming.specs.declared.Repaired.{Repaired}
 use Rattle.hamming.specs.Code.{checks_of}
 use Rattle.hamming.specs.Repair.{repair_of, found_number}
@@ -24,7 +25,7 @@ use Rattle.hamming.proofs.Repairs.{none_kept, found_checks}
 use Rattle.line.specs.Slots.{holds}
 use Rattle.line_order.specs.Order.{word_in}
 use Rattle.read_spec.specs.Read.{repaired, all_zero, is_beyond, is_filled, is_seen}
-use Rattle.read_spec.specs.Steps.{first_found, sought_of, words_to}
+use Rattle.read_spec.specs.Steps.{sought_of, words_to}
 use Rattle.hamming.specs.Steps.{found_of}
 use Rattle.read_spec.specs.declared.WordTally.{WordTally}
 

@@ -8,6 +8,7 @@ use Rattle.answer.specs.Numbers.{beyond_repair, filler_not_zero, wrong_mbas, wro
 use Rattle.answer.specs.Rows.{done, refused}
 use Rattle.answer.specs.Outcomes.{written}
 use Rattle.answer.specs.declared.Answer.{Answer}
+use Rattle.answer.specs.Steps.{first_found}
 use Rattle.crc.specs.Crc.{crc_of}
 use Rattle.scrambler.specs.Scrambler.{o}
 use Rattle.hamming.specs.Code.{joined_word}
@@ -44,10 +45,6 @@ abbrev pub sequence : List ℕ
 sequence = pack sequence_bytes o
 
 -- ---- a search that goes on to the end
-
--- the first of k places that p picks, if one is picked
-unfoldable pub first_found : (ℕ → Bool) → ℕ → Option ℕ
-first_found p k = cond (ltb (first p k) k) (Some (first p k)) None
 
 -- x is what was found among k places, and place k is taken in
 abbrev pub sought_of : Option ℕ → ℕ → Bool → Option ℕ

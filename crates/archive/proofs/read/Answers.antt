@@ -2,8 +2,8 @@
 use mathlib.Core.Path.{refl}
 use Rattle.archive_spec.specs.Read.{open_leaves}
 use Rattle.archive_spec.proofs.Judging.{open_room, open_listed}
-use Rattle.archive.proofs.Refusing.{meets_error}
 use Rattle.archive.proofs.read.Goals as goal
+use Rattle.answer.proofs.Results.{meets_error}
 
 pub returns-in_err-n : goal.returns-in_err-n
 unfolding open_leaves

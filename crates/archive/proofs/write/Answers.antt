@@ -1,9 +1,9 @@
 -- `archive::write` meets its contract: refused by the table, or the head. Assumes nothing.
 use Rattle.answer.proofs.Meets.{meets_done}
+use Rattle.answer.proofs.Results.{meets_error}
 use mathlib.Core.Path.{refl}
 use Rattle.archive_spec.specs.Write.{write_leaves}
 use Rattle.archive_spec.proofs.Judging.{written_head}
-use Rattle.archive.proofs.Refusing.{meets_error}
 use Rattle.archive.proofs.write.Goals as goal
 
 pub put_head-requires : goal.put_head-requires

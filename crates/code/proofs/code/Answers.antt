@@ -2,8 +2,9 @@
 use mathlib.Core.Path.{refl}
 use Rattle.std.proofs.lemmas.Result.{err_from_is_err_and}
 use Rattle.answer.proofs.Meets.{meets_done, meets_refused}
+use Rattle.answer.proofs.Results.{not_done}
 use Rattle.code.specs.Code.{capture_of, code_answer, code_leaves}
-use Rattle.code.proofs.Judging.{not_done, code_granted}
+use Rattle.code.proofs.Judging.{code_granted}
 use Rattle.code.proofs.code.Goals as goal
 
 pub returns-in_err-words : goal.returns-in_err-words

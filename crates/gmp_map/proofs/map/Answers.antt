@@ -3,13 +3,13 @@ use mathlib.Core.Path.{refl}
 use lib.ListN.{length}
 use Rattle.std.proofs.lemmas.Result.{err_from_is_err_and}
 use Rattle.answer.proofs.Meets.{meets_done, meets_refused}
-use Rattle.gmp.proofs.Asked.{never_done}
+use Rattle.answer.proofs.Results.{not_done}
 use Rattle.gmp_window.proofs.Judging.{map_taken}
 use Rattle.gmp_map.proofs.map.Goals as goal
 
 pub returns-in_err-d : goal.returns-in_err-d
 returns-in_err-d c = let p = err_from_is_err_and c.from_residual.result c.from_residual.ensures.1 in
-    rw (p.1, p.2) (meets_refused _ c.in_err-d.ensures (never_done _))
+    rw (p.1, p.2) (meets_refused _ c.in_err-d.ensures (not_done _))
 
 pub invariant_of-places : goal.invariant_of-places
 invariant_of-places c = let a = c.args in

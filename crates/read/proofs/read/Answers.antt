@@ -1,6 +1,7 @@
 -- `read::read` meets its contract. Assumes nothing.
 use Rattle.std.proofs.lemmas.Result.{err_from_is_err_and}
-use Rattle.read_spec.proofs.Judging.{not_done, read_accepted, read_late, read_refused}
+use Rattle.answer.proofs.Results.{not_done}
+use Rattle.read_spec.proofs.Judging.{read_accepted, read_late, read_refused}
 use mathlib.Core.Path.{refl}
 use Rattle.read.proofs.read.Goals as goal
 

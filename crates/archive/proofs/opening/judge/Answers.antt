@@ -1,9 +1,8 @@
 -- `archive::opening::judge` meets its contract: the lengths, then the file. Assumes nothing.
 use Rattle.answer.specs.Steps.{in_turn, row_then, faults_then}
 use Rattle.answer.proofs.Turns.{turn_late}
-use Rattle.answer.proofs.Results.{test_held, test_gone}
+use Rattle.answer.proofs.Results.{test_held, test_gone, handed_on}
 use Rattle.archive_spec.specs.Read.{open_early_rows, open_answer}
-use Rattle.archive.proofs.Refusing.{handed_on}
 use Rattle.archive.proofs.opening.judge.Goals as goal
 
 pub returns-in_err-refuse_length : goal.returns-in_err-refuse_length

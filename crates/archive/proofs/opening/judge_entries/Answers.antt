@@ -1,9 +1,8 @@
 -- `archive::opening::judge_entries` meets its contract: its tests in turn. Assumes nothing.
 use Rattle.answer.specs.declared.refusal.Refusal.TheVariants.{BadEntry, Misplaced}
-use Rattle.answer.proofs.Results.{test_held, test_gone}
+use Rattle.answer.proofs.Results.{test_held, test_gone, handed_on}
 use Rattle.archive_spec.specs.Steps.{entries_answer}
 use Rattle.archive_spec.proofs.Judging.{place_refused}
-use Rattle.archive.proofs.Refusing.{handed_on}
 use Rattle.archive.proofs.opening.judge_entries.Goals as goal
 
 pub returns-in_err-refuse_at : goal.returns-in_err-refuse_at

@@ -1,7 +1,6 @@
 -- `archive::opening::judge_file` meets its contract: its tests in turn. Assumes nothing.
-use Rattle.answer.proofs.Results.{test_held, test_gone}
+use Rattle.answer.proofs.Results.{test_held, test_gone, handed_on}
 use Rattle.archive_spec.proofs.Judging.{no_archive, bad_count_law, entries_decide, count_known}
-use Rattle.archive.proofs.Refusing.{handed_on}
 use Rattle.archive.proofs.opening.judge_file.Goals as goal
 
 pub judge_entries-requires : goal.judge_entries-requires

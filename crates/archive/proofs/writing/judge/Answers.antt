@@ -2,10 +2,9 @@
 use native.Mathlib.Omega.{arith}
 use Rattle.answer.specs.Steps.{in_turn, row_then, faults_then}
 use Rattle.answer.proofs.Turns.{in_turn_law}
-use Rattle.answer.proofs.Results.{test_held, test_gone}
+use Rattle.answer.proofs.Results.{test_held, test_gone, handed_on}
 use Rattle.archive_spec.specs.Write.{write_answer}
 use Rattle.archive_spec.proofs.Judging.{write_counted}
-use Rattle.archive.proofs.Refusing.{handed_on}
 use Rattle.archive.proofs.writing.judge.Goals as goal
 
 pub entry_from-bytes-requires : goal.entry_from-bytes-requires

@@ -1,6 +1,7 @@
 -- `read::Reader::read` meets its contract. Assumes nothing.
 use Rattle.std.proofs.lemmas.Result.{err_from_is_err_and}
-use Rattle.read_spec.proofs.Judging.{not_done, late_done, late_refused}
+use Rattle.answer.proofs.Results.{not_done}
+use Rattle.read_spec.proofs.Judging.{late_done, late_refused}
 use borrow.Author.Rules.{rules}
 use mathlib.Core.Path.{refl}
 use Rattle.read.proofs.Reader.read.Goals as goal
