@@ -1,16 +1,16 @@
 -- The last place of a run by one division: the code's formulas end the run. Assumes nothing.
 use Prim.Native.Nat.{ℕ, suc, ◌+◌, ◌-◌, ◌*◌, ◌/◌, ◌%◌, ◌≤◌, ◌<◌}
-use mathlib.Core.Bool.{Bool, true, false}
+use mathlib.Core.Bool.{Bool, true, false, not}
 use mathlib.Core.Path.{◌≡◌, sym, ap, ◌∙◌}
 use native.Mathlib.Nat.{add-mul, add-suc, mul-le-mul_right, div-mul-le_self, lt-div-mul-add}
 use native.Mathlib.Decide.{dec_le}
 use native.Mathlib.Omega.{arith}
 use Rattle.gmp.specs.Places.{is_data}
 use Rattle.gmp.specs.Steps.{Place}
-use Rattle.gmp.specs.Runs.{EndsRun, last_of_run}
+use Rattle.gmp.specs.Runs.{EndsRun, last_of_run, runs_from}
 use Rattle.gmp.proofs.Residues.{data_of, stuff_of, data_residue, stuff_residue, residue_up, residue_down, split, last_residue}
 use Rattle.sizes.specs.Sizes.{places}
-use Rattle.gmp.proofs.Stretches.{ends_by, ends_last, last_ends}
+use Rattle.gmp.proofs.Stretches.{ends_by, ends_last, last_ends, runs_last, runs_more}
 
 -- where no place is of the other kind the run goes to the last place
 to_end : (c j : ℕ) (b : Bool) → Place c j → ((k : ℕ) → is_data c k ≡ b) → EndsRun c j places
@@ -101,3 +101,26 @@ data_last c j p e n =
 
 pub last_to : {c j l : ℕ} → Place c j → l ≡ last_of_run c j → l ≤ places
 last_to {c} {j} p e = omega (arith, (last_ends c j p.to).to)
+
+-- ---- handing over: what holds where a run that ends at l goes over to the other kind
+
+pub record Handed (c j l : ℕ) : Type 0 where
+  pub behind : Place c (l + 1)
+  pub fewer : places - (l + 1) < places - j
+  pub other : is_data c (l + 1) ≡ not (is_data c j)
+  pub counts : 1 + runs_from c (l + 1) ≡ runs_from c j
+
+pub ended : (c j l : ℕ) → Place c j → l ≡ last_of_run c j → l ≡ places → 1 ≡ runs_from c j
+ended c j l p e h = sym (runs_last c j (rw (← e, h) at (last_ends c j p.to)))
+
+pub handed : (c j l : ℕ) → Place c j → l ≡ last_of_run c j → (l ≡ places → ⊥) → Handed c j l
+handed c j l p e n =
+    let r : EndsRun c j l = rw (← e) at (last_ends c j p.to) in
+    let h : l < places = omega (arith, r.to) in
+    let s : l + 1 ≡ suc l = omega arith in
+    record {
+      behind = record { count = p.count; from = omega arith; to = omega arith };
+      fewer = omega (arith, r.from);
+      other = rw s (r.other h);
+      counts = rw s (omega (arith, runs_more c j l r h));
+    }

@@ -4,7 +4,7 @@
 ghost use Rattle.std.specs.Prelude.{◌≡◌, true, false, IfErr};
 ghost use Rattle.answer.specs.Refusals.{answered};
 ghost use Rattle.gmp.specs.Places.{is_data, outside_stretch};
-ghost use Rattle.gmp.specs.Runs.{last_of_run};
+ghost use Rattle.gmp.specs.Runs.{last_of_run, runs_from};
 ghost use Rattle.gmp.specs.Answers.{outside_place, told, run_of, run_at, runs_of};
 ghost use Rattle.gmp.specs.Steps.{Place, DataIn};
 
@@ -29,14 +29,11 @@ pub fn run(c: u64, j: u64) -> Result<Run, Refused>
 pub fn runs(c: u64, j: u64) -> Result<u64, Refused>
     ensures { answered result ≡ runs_of c j }
 {
-    let first = run(c, j)?;
-    let mut last = first.last;
-    let mut runs = 1;
-    while last < PLACES {
-        last = run_at(c, last + 1).last;
-        runs += 1;
+    answer::refuse_if(outside_place(c, j), Refusal::OutsideSet, 0)?;
+    if is_data(c, j) {
+        return Ok(data_runs(c, j));
     }
-    Ok(runs)
+    Ok(stuff_runs(c, j))
 }
 
 // How many of the n places from f on are data. Where c is no count, or they are not all places, it is 0.
@@ -112,4 +109,31 @@ fn stuff_last(c: u64, j: u64) -> u64
         return PLACES;
     }
     j + (PLACES - 1 - j * c % PLACES) / c
+}
+
+// The runs from data place j on: its own, and those of the stuff place behind it.
+// Kept: document 01, "Which places take which form", asks for two functions, one for each kind, that call each other.
+#[cycle(data_runs_stuff_runs)]
+fn data_runs(c: u64, j: u64) -> u64
+    requires { Place c j × (is_data c j ≡ true) }
+    ensures { result ≡ runs_from c j }
+{
+    let last = data_last(c, j);
+    if last == PLACES {
+        return 1;
+    }
+    1 + stuff_runs(c, last + 1)
+}
+
+// The runs from stuff place j on: its own, and those of the data place behind it.
+#[cycle(data_runs_stuff_runs)]
+fn stuff_runs(c: u64, j: u64) -> u64
+    requires { Place c j × (is_data c j ≡ false) }
+    ensures { result ≡ runs_from c j }
+{
+    let last = stuff_last(c, j);
+    if last == PLACES {
+        return 1;
+    }
+    1 + data_runs(c, last + 1)
 }
