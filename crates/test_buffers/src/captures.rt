@@ -80,7 +80,7 @@ fn read_into<W: Write>(
 // The capture, and zeros behind it.
 fn coded() -> Large {
     let mut capture = buffer_sizes::large_space();
-    let _ = test_input::code(1, &mut capture[..CAPTURE_BYTES]);
+    let _ = test_input::code(1, &mut capture[0..CAPTURE_BYTES]);
     capture
 }
 

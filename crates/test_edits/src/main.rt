@@ -292,7 +292,7 @@ fn flipped_in<W: Write>(
 #[inline(never)]
 fn flipped<W: Write>(out: &mut W, flips: &[(usize, usize)], spare: u8) -> io::Result<Option<bool>> {
     let mut capture = buffer_sizes::large_space();
-    flipped_in(out, flips, spare, &mut capture[..ONE_BYTES])
+    flipped_in(out, flips, spare, &mut capture[0..ONE_BYTES])
 }
 
 // Two bits of word w are wrong, which is not listed.
@@ -406,7 +406,7 @@ fn edit_twice<W: Write>(out: &mut W, block: u64, capture: &mut [u8]) -> io::Resu
 #[inline(never)]
 fn never_coded<W: Write>(out: &mut W, block: u64) -> io::Result<()> {
     let mut capture = buffer_sizes::large_space();
-    edit_twice(out, block, &mut capture[..ONE_BYTES])
+    edit_twice(out, block, &mut capture[0..ONE_BYTES])
 }
 
 // ---- all of them
