@@ -11,8 +11,8 @@ use Rattle.answer.specs.Steps.{in_turn, row_then}
 use Rattle.answer.proofs.Turns.{in_turn_law}
 use Rattle.gmp.specs.Places.{is_data, kind_number, kind_at}
 use Rattle.gmp.specs.Runs.{last_of_run, runs_from, EndsRun}
-use Rattle.gmp.specs.Answers.{outside_place, Told, told, run_of, run_at, runs_of}
-use Rattle.gmp.specs.Steps.{Place}
+use Rattle.gmp.specs.Answers.{outside_place, Told, told, run_of, runs_of}
+use Rattle.gmp.specs.Steps.{Place, run_at}
 use Rattle.gmp.specs.declared.told.Kind.TheVariants.{Stuff, Data}
 use Rattle.gmp.specs.declared.told.Run.{Run}
 use Rattle.gmp.proofs.Allowed.{inside, not_outside}

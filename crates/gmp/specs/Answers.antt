@@ -5,9 +5,9 @@ use Rattle.answer.specs.Rows.{Row, answer_of, whole}
 use Rattle.answer.specs.Refusals.{refusal_number}
 use Rattle.answer.specs.declared.Answer.{Answer}
 use Rattle.answer.specs.declared.refusal.Refused.{Refused}
-use Rattle.gmp.specs.Places.{is_data, kind_number, kind_at}
+use Rattle.gmp.specs.Places.{kind_number, kind_at}
 use Rattle.gmp.specs.Runs.{last_of_run, runs_from}
-use Rattle.gmp.specs.declared.told.Kind.TheVariants.{Stuff, Data}
+use Rattle.gmp.specs.declared.told.Kind.TheVariants.{Stuff}
 use Rattle.sizes.specs.Sizes.{places}
 use Rattle.gmp.specs.declared.told.Run.{Run}
 
@@ -37,7 +37,3 @@ runs_rows c j = whole outside_set (outside_place c j) ∷ []
 
 unfoldable pub runs_of : ℕ → ℕ → Answer
 runs_of c j = answer_of (runs_rows c j) (runs_from c j)
-
--- the run of a place, as the code hands it on
-unfoldable pub run_at : ℕ → ℕ → Run
-run_at c j = record { kind = cond (is_data c j) Data Stuff; last = last_of_run c j }

@@ -2,7 +2,10 @@
 -- leave nothing out. Assumes nothing: these are definitions.
 use Rattle.std.specs.Prelude.{ℕ, suc, ◌+◌, ◌≤◌, cond, ◌≡◌}
 use Rattle.sizes.specs.Sizes.{places}
-use Rattle.gmp.specs.Places.{data_from, outside_stretch}
+use Rattle.gmp.specs.Places.{is_data, data_from, outside_stretch}
+use Rattle.gmp.specs.Runs.{last_of_run}
+use Rattle.gmp.specs.declared.told.Kind.TheVariants.{Stuff, Data}
+use Rattle.gmp.specs.declared.told.Run.{Run}
 
 -- a count, and one of the places
 pub record Place (c j : ℕ) : Type 0 where
@@ -15,6 +18,10 @@ pub record Stretch (c f n : ℕ) : Type 0 where
   pub count : c ≤ places
   pub from : 1 ≤ f
   pub to : f + n ≤ suc places
+
+-- the run of a place, as the code hands it on
+unfoldable pub run_at : ℕ → ℕ → Run
+run_at c j = record { kind = cond (is_data c j) Data Stuff; last = last_of_run c j }
 
 -- how many of the n places from f on are data, for any numbers: none where they are not all places
 unfoldable pub data_in : ℕ → ℕ → ℕ → ℕ

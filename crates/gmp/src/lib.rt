@@ -5,8 +5,8 @@ ghost use Rattle.std.specs.Prelude.{◌≡◌, true, false, IfErr};
 ghost use Rattle.answer.specs.Refusals.{answered};
 ghost use Rattle.gmp.specs.Places.{is_data, outside_stretch};
 ghost use Rattle.gmp.specs.Runs.{last_of_run, runs_from};
-ghost use Rattle.gmp.specs.Answers.{outside_place, told, run_of, run_at, runs_of};
-ghost use Rattle.gmp.specs.Steps.{Place, DataIn};
+ghost use Rattle.gmp.specs.Answers.{outside_place, told, run_of, runs_of};
+ghost use Rattle.gmp.specs.Steps.{Place, DataIn, run_at};
 
 mod told;
 

@@ -1,5 +1,5 @@
 -- `gmp::run_at` meets its contract: the kind by its test, and the last place of a run of that kind. Assumes nothing.
-use Rattle.gmp.specs.Answers.{run_at}
+use Rattle.gmp.specs.Steps.{run_at}
 use Rattle.gmp.proofs.Asked.{kind_is}
 use Rattle.gmp.proofs.run_at.Goals as goal
 
