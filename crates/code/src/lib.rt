@@ -210,7 +210,7 @@ fn tail_byte(crc: u32, mbas: u8, parity: &[u8], at: usize, k: usize) -> u8
     ensures { result ≡ byte_of (tail_bit crc mbas (from_index (bit_at parity.now) at)) k }
 {
     if k < 4 {
-        return ((crc >> (24 - 8 * k)) % 256) as u8;
+        return crc.to_be_bytes()[k];
     }
     if k == 4 {
         return mbas * 4 + bits::byte_from(parity, at) / 64;
