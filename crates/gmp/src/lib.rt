@@ -37,7 +37,7 @@ pub fn runs(c: u64, j: u64) -> Result<u64, Refused>
 }
 
 // How many of the n places from f on are data. Where c is no count, or they are not all places, it is 0.
-// Kept: 0 and no Option: `DataIn` promises a number for any c, f and n, and `buffer_sizes::groups` hands it on.
+// Kept: 0 and no Option: `DataIn` promises a number for any c, f and n, and the lengths of groups (crate buffer_sizes) are made of it.
 pub fn data_in(c: u64, f: u64, n: u64) -> u64
     ensures { DataIn c f n result }
 {

@@ -284,7 +284,7 @@ impl Reader<'_> {
 
     // The information and the parity of all super frames, one after the other.
     // Kept: here, in write_blocks and in received the parts are cut by index. Over chunks_exact_mut no invariant can name what was written to
-    // them (tried in code::Coder::write_groups), and an element's parts are of 14 and 15 bytes, which no chunks method cuts.
+    // them (tried in the crate code, where groups are written), and an element's parts are of 14 and 15 bytes, which no chunks method cuts.
     fn write_frames(&self, buffer: &mut [u8], info: &mut [u8], parity: &mut [u8])
         requires { (length buffer.old ≡ super_bytes) × (length info.old ≡ info_length self.now.n)
             × (length parity.old ≡ parity_length self.now.n) }

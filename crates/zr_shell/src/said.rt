@@ -96,7 +96,7 @@ impl<W: Write> Shell<'_, W> {
     }
 
     // The listed words, sixteen to a line.
-    // Kept: a list with a count beside it, as `capture::edit` fills it for C.
+    // Kept: a list with a count beside it, as an edit fills it for C.
     pub fn words(&mut self, list: &[u64; 145], count: u64) -> io::Result<()> {
         for (k, word) in list.iter().take(count as usize).enumerate() {
             if k % 16 == 0 {
