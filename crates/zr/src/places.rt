@@ -1,6 +1,4 @@
 // The commands on GMP places.
-ghost use Rattle.std.specs.Prelude.{◌≡◌};
-
 use answer::{Refusal, Refused};
 use std::io;
 use std::io::Write;
