@@ -43,7 +43,7 @@ fn write<W: Write>(out: &mut W, count: u64, p: u64) -> io::Result<()> {
     let kinds = [1u64, 3, 2];
     let lengths = [5u64, 7, 9];
     let mut head = [0u8; LONG_HEAD];
-    write_into(out, count, &kinds[..a], &lengths[..b], &mut head[..k])
+    write_into(out, count, &kinds[0..a], &lengths[0..b], &mut head[0..k])
 }
 
 fn read_into<W: Write>(
@@ -76,7 +76,7 @@ fn list() -> [u64; LONG_LIST] {
 // The file whose bodies are zeros.
 fn file() -> [u8; LONG_FILE] {
     let mut bytes = [0u8; LONG_FILE];
-    let _ = archive::write(2, &[1, 3], &[5, 7], &mut bytes[..HEAD]);
+    let _ = archive::write(2, &[1, 3], &[5, 7], &mut bytes[0..HEAD]);
     bytes
 }
 
@@ -91,10 +91,10 @@ fn read<W: Write>(out: &mut W, p: u64) -> io::Result<()> {
     let mut lengths = list();
     read_into(
         out,
-        &first[..i],
-        &mut kinds[..a],
-        &mut offsets[..b],
-        &mut lengths[..c],
+        &first[0..i],
+        &mut kinds[0..a],
+        &mut offsets[0..b],
+        &mut lengths[0..c],
     )
 }
 

@@ -51,7 +51,7 @@ fn code_from<W: Write>(out: &mut W, n: u64, p: u64, room: &[u8]) -> io::Result<(
     let a = lent::length(sizes::SUPER_INFO_BYTES, p).min(1300000);
     let b = a + lent::length(sizes::SUPER_PARITY_BYTES, p / 3).min(100000);
     let k = lent::length(CAPTURE_BYTES, p / 9).min(LARGE);
-    code_into(out, n, &room[..a], &room[a..b], &mut capture[..k])
+    code_into(out, n, &room[0..a], &room[a..b], &mut capture[0..k])
 }
 
 fn code<W: Write>(out: &mut W, n: u64, p: u64) -> io::Result<()> {
@@ -91,7 +91,7 @@ fn read<W: Write>(out: &mut W, n: u64, p: u64) -> io::Result<()> {
     let capture = coded();
     let mut info = buffer_sizes::large_space();
     let mut parity = buffer_sizes::small_space();
-    read_into(out, n, &capture[..k], &mut info[..a], &mut parity[..b])
+    read_into(out, n, &capture[0..k], &mut info[0..a], &mut parity[0..b])
 }
 
 // ---- editing
@@ -149,10 +149,10 @@ fn edit<W: Write>(out: &mut W, n: u64, spare: u8, p: u64) -> io::Result<()> {
         out,
         n,
         spare,
-        &bits[..i],
-        &parity[..j],
-        &mut capture[..k],
-        &mut list[..l],
+        &bits[0..i],
+        &parity[0..j],
+        &mut capture[0..k],
+        &mut list[0..l],
     )
 }
 
@@ -170,7 +170,7 @@ fn part<W: Write>(out: &mut W, n: u64, p: u64) -> io::Result<()> {
     let mut info = buffer_sizes::large_space();
     test_input::fill(101, &mut info);
     let a = lent::length(sizes::SUPER_INFO_BYTES, p).min(LARGE);
-    part_of(out, n, &info[..a])
+    part_of(out, n, &info[0..a])
 }
 
 // ---- all of them; where N is outside its set every buffer is short

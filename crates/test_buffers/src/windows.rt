@@ -48,7 +48,7 @@ fn map<W: Write>(out: &mut W, c: u64, spare: u8, p: u64) -> io::Result<()> {
     let b = lent::length(WINDOW, p / 3).min(LONG_WINDOW);
     let groups = group(spare);
     let mut window = [0u8; LONG_WINDOW];
-    map_into(out, c, spare, &groups[..a], &mut window[..b])
+    map_into(out, c, spare, &groups[0..a], &mut window[0..b])
 }
 
 fn unmap_into<W: Write>(out: &mut W, c: u64, window: &[u8], groups: &mut [u8]) -> io::Result<()> {
@@ -65,7 +65,7 @@ fn unmap<W: Write>(out: &mut W, c: u64, p: u64) -> io::Result<()> {
     let mut groups = [0u8; LONG_GROUPS];
     let mut window = [0u8; LONG_WINDOW];
     test_input::fill(999, &mut window);
-    unmap_into(out, c, &window[..a], &mut groups[..b])
+    unmap_into(out, c, &window[0..a], &mut groups[0..b])
 }
 
 // Where the count is none every buffer is short.

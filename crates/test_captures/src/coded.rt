@@ -35,7 +35,7 @@ fn code_from<W: Write>(out: &mut W, call: Call, room: &[u8]) -> io::Result<()>
     let a = call.info.min(1300000);
     let b = a + call.parity.min(100000);
     let k = call.capture.min(LARGE);
-    code_into(out, call, &room[..a], &room[a..b], &mut space[..k])
+    code_into(out, call, &room[0..a], &room[a..b], &mut space[0..k])
 }
 
 // The information is made from the seed 100 + n, and the parity behind it.

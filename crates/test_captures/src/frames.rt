@@ -38,7 +38,7 @@ fn code_from<W: Write>(
 {
     let a = buffer_sizes::information(m);
     let b = a + buffer_sizes::parity(m);
-    code_into(out, n, &room[..a], &room[a..b], capture)
+    code_into(out, n, &room[0..a], &room[a..b], capture)
 }
 
 // With the information and the parity of m super frames, one made behind the other.
@@ -79,7 +79,7 @@ fn read<W: Write>(out: &mut W, n: u64, m: u64, capture: &[u8]) -> io::Result<()>
     let mut parity = buffer_sizes::small_space();
     let a = buffer_sizes::information(m);
     let b = buffer_sizes::parity(m);
-    read_into(out, n, capture, &mut info[..a], &mut parity[..b])
+    read_into(out, n, capture, &mut info[0..a], &mut parity[0..b])
 }
 
 // The seven bits behind the 257 are zero.
@@ -134,7 +134,7 @@ fn case<W: Write>(out: &mut W, n: u64, m: u64, capture: &mut [u8]) -> io::Result
 fn sized<W: Write>(out: &mut W, n: u64, m: u64) -> io::Result<()> {
     let mut capture = buffer_sizes::large_space();
     let k = buffer_sizes::capture(m);
-    case(out, n, m, &mut capture[..k])
+    case(out, n, m, &mut capture[0..k])
 }
 
 pub fn cases<W: Write>(out: &mut W) -> io::Result<()> {

@@ -27,7 +27,7 @@ fn parts<W: Write>(out: &mut W, n: u64, last: u64) -> io::Result<()> {
     let mut info = buffer_sizes::large_space();
     let a = buffer_sizes::information(n);
     test_input::fill_room(n, &mut info);
-    ask(out, n, last, &info[..a])
+    ask(out, n, last, &info[0..a])
 }
 
 // A request that is refused, with an information of the length given.
@@ -36,7 +36,7 @@ fn named<W: Write>(out: &mut W, name: &str, n: u64, t: u64, length: usize) -> io
     let mut info = buffer_sizes::large_space();
     test_input::fill(101, &mut info);
     write!(out, "{name}")?;
-    part(out, n, t, &info[..length.min(LARGE)])
+    part(out, n, t, &info[0..length.min(LARGE)])
 }
 
 pub fn cases<W: Write>(out: &mut W) -> io::Result<()> {

@@ -55,7 +55,7 @@ fn read<W: Write>(out: &mut W, call: Call, capture: &[u8]) -> io::Result<()> {
     let mut p = buffer_sizes::small_space();
     let a = call.info.min(LARGE);
     let b = call.parity.min(SMALL);
-    read_in(out, call, capture, &mut i[..a], &mut p[..b])
+    read_in(out, call, capture, &mut i[0..a], &mut p[0..b])
 }
 
 // ---- flips
@@ -121,7 +121,7 @@ fn flipped_in<W: Write>(
 fn counted_from<W: Write>(out: &mut W, n: u64, m0: u64, flips: &[Flip]) -> io::Result<()> {
     let mut capture = buffer_sizes::large_space();
     let k = buffer_sizes::capture(n);
-    flipped_in(out, Call::stated(n, m0), flips, &mut capture[..k])
+    flipped_in(out, Call::stated(n, m0), flips, &mut capture[0..k])
 }
 
 // Reads with bits flipped.
@@ -158,7 +158,7 @@ fn every_word<W: Write>(out: &mut W, n: u64) -> io::Result<()> {
     let mut capture = buffer_sizes::large_space();
     let k = buffer_sizes::capture(n);
     write!(out, "N {n} one flip in every word")?;
-    all_in(out, n, &mut capture[..k])
+    all_in(out, n, &mut capture[0..k])
 }
 
 // Number 4: a word, which is filler, beyond repair.
@@ -315,7 +315,7 @@ fn readings<W: Write>(out: &mut W, n: u64) -> io::Result<()> {
 #[inline(never)]
 fn read_zeros<W: Write>(out: &mut W, call: Call) -> io::Result<()> {
     let zeros = buffer_sizes::large_space();
-    read(out, call, &zeros[..call.capture.min(LARGE)])
+    read(out, call, &zeros[0..call.capture.min(LARGE)])
 }
 
 // A call that is refused for its numbers or lengths, whatever the capture holds.

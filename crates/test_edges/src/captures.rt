@@ -68,7 +68,7 @@ fn read<W: Write>(out: &mut W, what: &str, n: u64, m0: u64, capture: &[u8]) -> i
     let mut parity = buffer_sizes::small_space();
     let a = buffer_sizes::information(n);
     let b = buffer_sizes::parity(n);
-    read_into(out, what, n, m0, capture, &mut info[..a], &mut parity[..b])
+    read_into(out, what, n, m0, capture, &mut info[0..a], &mut parity[0..b])
 }
 
 fn code_from<W: Write>(
@@ -97,7 +97,7 @@ fn code<W: Write>(
     let mut parity = buffer_sizes::small_space();
     let a = buffer_sizes::information(n);
     let b = buffer_sizes::parity(n);
-    code_from(out, n, m0, g, capture, &mut info[..a], &mut parity[..b])
+    code_from(out, n, m0, g, capture, &mut info[0..a], &mut parity[0..b])
 }
 
 fn edit_and_read<W: Write>(
@@ -132,7 +132,7 @@ fn case<W: Write>(out: &mut W, n: u64, seed: u64, m0: u64, capture: &mut [u8]) -
 fn sized<W: Write>(out: &mut W, n: u64, seed: u64, m0: u64) -> io::Result<()> {
     let mut capture = buffer_sizes::large_space();
     let k = buffer_sizes::capture(n);
-    case(out, n, seed, m0, &mut capture[..k])
+    case(out, n, seed, m0, &mut capture[0..k])
 }
 
 // The first m0, those on both sides of 64, the last two, and the one past them, which is refused; and one between.

@@ -53,9 +53,9 @@ fn sized<W: Write>(out: &mut W, w: Window, g: &mut Generator) -> io::Result<()> 
         out,
         w,
         g,
-        &mut groups[..d],
-        &mut window[..k],
-        &mut back[..d],
+        &mut groups[0..d],
+        &mut window[0..k],
+        &mut back[0..d],
     )
 }
 

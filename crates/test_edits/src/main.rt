@@ -140,7 +140,7 @@ impl Call {
         let i = self.client.min(sizes::BLOCK_BYTES);
         let j = self.parity.min(sizes::PARITY_BYTES);
         let k = self.list.min(LONG_LIST);
-        self.edit_by(out, &client[..i], &parity[..j], capture, &mut list[..k])
+        self.edit_by(out, &client[0..i], &parity[0..j], capture, &mut list[0..k])
     }
 }
 
@@ -160,7 +160,7 @@ fn codes_to(n: u64, block: u64, capture: &[u8], other: &mut [u8]) -> bool {
 fn is_afresh(n: u64, block: u64, capture: &[u8]) -> bool {
     let mut other = buffer_sizes::large_space();
     let k = buffer_sizes::capture(n);
-    codes_to(n, block, capture, &mut other[..k])
+    codes_to(n, block, capture, &mut other[0..k])
 }
 
 fn fills(n: u64, room: &[u8], info: &[u8], parity: &[u8]) -> bool
@@ -168,7 +168,7 @@ fn fills(n: u64, room: &[u8], info: &[u8], parity: &[u8]) -> bool
 {
     let a = buffer_sizes::information(n);
     let b = a + buffer_sizes::parity(n);
-    info == &room[..a] && parity == &room[a..b]
+    info == &room[0..a] && parity == &room[a..b]
 }
 
 // Whether that is what coding afresh takes.
@@ -191,7 +191,7 @@ fn reads_back(n: u64, block: u64, capture: &[u8]) -> bool {
     let mut parity = buffer_sizes::small_space();
     let a = buffer_sizes::information(n);
     let b = buffer_sizes::parity(n);
-    reads_into(n, block, capture, &mut info[..a], &mut parity[..b])
+    reads_into(n, block, capture, &mut info[0..a], &mut parity[0..b])
 }
 
 fn compare<W: Write>(out: &mut W, n: u64, block: u64, capture: &[u8]) -> io::Result<()> {
@@ -223,7 +223,7 @@ fn edit_coded<W: Write>(
 fn edited<W: Write>(out: &mut W, frames: u64, call: Call) -> io::Result<()> {
     let mut capture = buffer_sizes::large_space();
     let k = buffer_sizes::capture(frames);
-    edit_coded(out, frames, call, &mut capture[..k])
+    edit_coded(out, frames, call, &mut capture[0..k])
 }
 
 // All is as stated, but for the numbers.
@@ -245,7 +245,7 @@ fn say_coded_in<W: Write>(out: &mut W, n: u64, capture: &mut [u8]) -> io::Result
 fn say_coded<W: Write>(out: &mut W, n: u64) -> io::Result<()> {
     let mut capture = buffer_sizes::large_space();
     let k = buffer_sizes::capture(n);
-    say_coded_in(out, n, &mut capture[..k])
+    say_coded_in(out, n, &mut capture[0..k])
 }
 
 // The capture as it was coded, and the first block past its end.
@@ -434,7 +434,7 @@ fn refusals<W: Write>(out: &mut W) -> io::Result<()> {
 
 fn main(rt: HostRuntime) -> io::Result<()> {
     let mut out = io::writer(&rt);
-    let before = test_data::digest(&list_of()[..sizes::LIST_LENGTH]);
+    let before = test_data::digest(&list_of()[0..sizes::LIST_LENGTH]);
     writeln!(out, "list before: {before:016x}")?;
     grants(&mut out)?;
     refusals(&mut out)?;
