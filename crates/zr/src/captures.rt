@@ -13,11 +13,11 @@ pub fn code<W: Write>(shell: &mut Shell<W>) -> io::Result<()> {
         return Ok(());
     };
     let mut info = buffer_sizes::large_space();
-    let Some(info) = shell.load(4, &mut info)? else {
+    let Some(info) = shell.loaded(4, &mut info)? else {
         return Ok(());
     };
     let mut parity = buffer_sizes::small_space();
-    let Some(parity) = shell.load(5, &mut parity)? else {
+    let Some(parity) = shell.loaded(5, &mut parity)? else {
         return Ok(());
     };
     code_files(shell, n, m0, info, parity)
@@ -63,7 +63,7 @@ pub fn read<W: Write>(shell: &mut Shell<W>) -> io::Result<()> {
         return Ok(());
     };
     let mut capture = buffer_sizes::large_space();
-    let Some(capture) = shell.load(4, &mut capture)? else {
+    let Some(capture) = shell.loaded(4, &mut capture)? else {
         return Ok(());
     };
     read_file(shell, n, m0, capture)
@@ -98,15 +98,15 @@ pub fn edit<W: Write>(shell: &mut Shell<W>) -> io::Result<()> {
         return Ok(());
     };
     let mut bits = [0u8; 34];
-    let Some(bits) = shell.load(4, &mut bits)? else {
+    let Some(bits) = shell.loaded(4, &mut bits)? else {
         return Ok(());
     };
     let mut parity = buffer_sizes::small_space();
-    let Some(parity) = shell.load(5, &mut parity)? else {
+    let Some(parity) = shell.loaded(5, &mut parity)? else {
         return Ok(());
     };
     let mut capture = buffer_sizes::large_space();
-    let Some(capture) = shell.load(6, &mut capture)? else {
+    let Some(capture) = shell.loaded(6, &mut capture)? else {
         return Ok(());
     };
     edit_files(shell, n, block, bits, parity, capture)

@@ -31,7 +31,7 @@ fn convert<W: Write, F: FnOnce(&mut Shell<W>, u64, u64, u64, &[u8]) -> io::Resul
         return Ok(());
     };
     let mut from = buffer_sizes::large_space();
-    let Some(from) = shell.load(5, &mut from)? else {
+    let Some(from) = shell.loaded(5, &mut from)? else {
         return Ok(());
     };
     step(shell, c, f, n, from)

@@ -1,5 +1,5 @@
 // The files and numbers that the arguments name. What goes wrong with one is said here, once.
-ghost use Rattle.std.specs.Prelude.{◌≡◌, ◌≤◌, length, IfOk, OnErr};
+ghost use Rattle.std.specs.Prelude.{◌≡◌, ◌≤◌, length, IfOk, IfSome, OnErr};
 
 use crate::{Shell, said};
 use std::env::{Env, FillError};
@@ -43,19 +43,30 @@ impl<W: Write> Shell<'_, W> {
         Ok(number)
     }
 
-    // Reads the file that argument i names, to its end or until `into` is full, and answers the part that holds its bytes.
-    pub fn load<'s>(&mut self, i: usize, into: &'s mut [u8]) -> io::Result<Option<&'s mut [u8]>> {
+    // Reads the file that argument i names, to its end or until `into` is full, and answers how many of its bytes are there.
+    pub fn load(&mut self, i: usize, into: &mut [u8]) -> io::Result<Option<usize>>
+        ensures ok { IfOk result (λ r. IfSome r (λ n. n ≤ length into.new)) }
+        ensures err { OnErr result (length into.new ≡ length into.old) }
+    {
         let mut space = [0u8; ARGUMENT_BYTES];
         let path = self.argument(i, &mut space);
         let Some(mut file) = self.open(path)? else {
             return Ok(None);
         };
         match read_all(&mut file, into) {
-            Ok(bytes) => Ok(Some(&mut into[..bytes])),
+            Ok(bytes) => Ok(Some(bytes)),
             Err(error) => {
                 self.unread(path, error)?;
                 Ok(None)
             }
+        }
+    }
+
+    // The same, and answers the part that holds its bytes.
+    pub fn loaded<'s>(&mut self, i: usize, into: &'s mut [u8]) -> io::Result<Option<&'s mut [u8]>> {
+        match self.load(i, into)? {
+            Some(bytes) => Ok(Some(&mut into[..bytes])),
+            None => Ok(None),
         }
     }
 
