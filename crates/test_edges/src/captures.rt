@@ -68,7 +68,15 @@ fn read<W: Write>(out: &mut W, what: &str, n: u64, m0: u64, capture: &[u8]) -> i
     let mut parity = buffer_sizes::small_space();
     let a = buffer_sizes::information(n);
     let b = buffer_sizes::parity(n);
-    read_into(out, what, n, m0, capture, &mut info[0..a], &mut parity[0..b])
+    read_into(
+        out,
+        what,
+        n,
+        m0,
+        capture,
+        &mut info[0..a],
+        &mut parity[0..b],
+    )
 }
 
 fn code_from<W: Write>(

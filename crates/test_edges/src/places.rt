@@ -51,7 +51,13 @@ fn sized<W: Write>(out: &mut W, c: u64, f: u64, n: u64) -> io::Result<()> {
     let mut back = [60u8; FOUR_PLACES];
     let k = buffer_sizes::window(n).min(FOUR_PLACES);
     let w = Window { c, f, n };
-    there_and_back(out, w, &mut groups[0..k], &mut window[0..k], &mut back[0..k])
+    there_and_back(
+        out,
+        w,
+        &mut groups[0..k],
+        &mut window[0..k],
+        &mut back[0..k],
+    )
 }
 
 pub fn cases<W: Write>(out: &mut W) -> io::Result<()> {

@@ -44,7 +44,11 @@ pub fn outcome<W: Write>(
     answered: Result<u64, Refused>,
 ) -> io::Result<()> {
     let a = Answer::from(answered);
-    write!(out, "{name}number {} place {} count {}", a.number, a.place, a.count)
+    write!(
+        out,
+        "{name}number {} place {} count {}",
+        a.number, a.place, a.count
+    )
 }
 
 // Digests of what a buffer held before a call and holds after it, behind what it is of.
