@@ -13,7 +13,7 @@ pub use refusal::{Refusal, Refused};
 
 // What C is handed.
 #[repr(C)]
-#[derive(Clone, Copy)]
+#[derive(Clone, Copy, Debug, PartialEq, Eq)]
 pub struct Answer {
     pub number: u64,
     pub place: u64,

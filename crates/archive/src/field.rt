@@ -24,6 +24,7 @@ pub(crate) fn kind_outside(kind: u64) -> bool
 }
 
 // Where entry e begins, which is how long a head of e entries is.
+// Kept: bounds of indices (e, n, k), here and where entries are gone over: a struct that holds n alone would be `entries.n` at each of its uses.
 pub(crate) fn entry_from(e: usize) -> usize
     requires { e ≤ most_entries }
     ensures { result ≡ head_bytes e }

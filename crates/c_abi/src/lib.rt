@@ -19,7 +19,7 @@ use gmp::{Kind, Run};
 
 // A run as C is handed it: the kind is a number, 0 for stuff and 1 for data.
 #[repr(C)]
-#[derive(Clone, Copy)]
+#[derive(Clone, Copy, Debug, PartialEq, Eq)]
 pub struct HostRun {
     pub number: u64,
     pub kind: u64,
@@ -45,6 +45,8 @@ impl From<Result<Run, Refused>> for HostRun {
         }
     }
 }
+
+// Kept: each export hands out C's numbers, `Answer` or `HostRun`, and takes what C hands over one by one: hosts/c/zr400.h declares them so.
 
 // The kind of place j and the last place of its run.
 #[unsafe(no_mangle)]
@@ -164,6 +166,7 @@ pub extern "C" fn zr400_archive_read(
 }
 
 // The document's number for a kind.
+// Kept: a number, which `HostRun` hands to C; `hosted` in the clause of `zr400_run` states it.
 fn kind_number(kind: Kind) -> u64
     ensures { result ≡ kind_number kind }
 {

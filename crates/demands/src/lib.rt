@@ -58,6 +58,7 @@ pub fn edit(
 }
 
 // Demand 2: codes, flips in word w the bit that flips[w] names (128 or more is none), and reads.
+// Kept: 128 and no Option, as `flips_of` in the clause takes the bytes lent; and buffer by buffer, here and below, as the clauses of capture take them.
 pub fn code_flip_read(
     n: u64,
     m0: u64,

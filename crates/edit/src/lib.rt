@@ -34,6 +34,7 @@ const STRETCH: usize = sizes::FEC_ELEMENTS + sizes::LONGEST_WAIT;
 
 // Replaces client block `block` of a capture of n super frames by the 257 bits of `bits` and its FEC block's parity by `parity`, changes the
 // CRC by what the changed bits leave, and lists the words that hold any of these. The count is how many were listed.
+// Kept: numbers and buffers one by one, here and where they are judged, and a list with a count beside it: so C hands them over, and the clause speaks of each.
 pub fn edit(
     n: u64,
     block: u64,

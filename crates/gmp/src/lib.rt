@@ -63,6 +63,7 @@ fn outside_place(c: u64, j: u64) -> bool
 }
 
 // Whether place j is data.
+// Kept: c and j side by side, and `Place c j` required of them, here and below: a struct of the two would be made anew for each place gone on to.
 fn is_data(c: u64, j: u64) -> bool
     requires { Place c j }
     ensures { result ≡ is_data c j }

@@ -57,6 +57,8 @@ fn word_by<F: Fn(usize) -> u8>(symbol: F, capture: &[u8], w: usize) -> [u8; 16]
 }
 
 // Symbol k of word w where the capture has the whole of the word's group: no byte is tested.
+// Kept: that the group is there is required of capture and w together, here and in `checks_inside`, and of a capture lent to be written in `put_inside`:
+// one struct could not lend both. `k < word_bytes` is the bound of an index.
 fn symbol_inside(capture: &[u8], w: usize, k: usize) -> u8
     requires { (w / group_words < length capture.now / group_size) × (k < word_bytes) }
     ensures { result ≡ symbol_by the_line_order capture.now w k }

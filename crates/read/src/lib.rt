@@ -91,8 +91,11 @@ fn whole_sequence(out: &mut [u8; SEQUENCE_BYTES])
     scrambler::fill(out);
 }
 
-// A place for the bytes of one super frame.
-fn blank() -> [u8; sizes::SUPER_BYTES] {
+// The bytes of one super frame.
+type Frame = [u8; sizes::SUPER_BYTES];
+
+// A place for them.
+fn blank() -> Frame {
     [0u8; sizes::SUPER_BYTES]
 }
 
@@ -115,9 +118,8 @@ struct Reader<'a> {
 
 impl Reader<'_> {
     // Both passes, and the writing where nothing is wrong. The buffer is lent for one super frame at a time.
-    fn read(&self, buffer: &mut [u8], info: &mut [u8], parity: &mut [u8]) -> Result<u64, Refused>
-        requires { (length buffer.old ≡ super_bytes) × (length info.old ≡ info_length self.now.n)
-            × (length parity.old ≡ parity_length self.now.n) }
+    fn read(&self, buffer: &mut Frame, info: &mut [u8], parity: &mut [u8]) -> Result<u64, Refused>
+        requires { (length info.old ≡ info_length self.now.n) × (length parity.old ≡ parity_length self.now.n) }
         ensures { Outcome (late_answer self.now.n self.now.m0 self.now.capture.now)
             (late_leaves self.now.n self.now.m0 self.now.capture.now info.old parity.old) (answered result) (info.new, parity.new) }
     {
@@ -204,8 +206,8 @@ impl Reader<'_> {
     }
 
     // The bytes of super frame f as they were received. Element l has 119 bits: it begins l mod 8 bits before its first whole byte.
-    fn received(&self, f: usize, out: &mut [u8])
-        requires { (f < 8) × (length out.old ≡ super_bytes) }
+    fn received(&self, f: usize, out: &mut Frame)
+        requires { f < 8 }
         ensures { out.new ≡ pack super_bytes (received_in (repaired self.now.capture.now) f) }
     {
         let mut here = self.element(sizes::SUPER_ELEMENTS * f);
@@ -219,8 +221,8 @@ impl Reader<'_> {
     }
 
     // The same, descrambled.
-    fn frame(&self, f: usize, out: &mut [u8])
-        requires { (f < 8) × (length out.old ≡ super_bytes) }
+    fn frame(&self, f: usize, out: &mut Frame)
+        requires { f < 8 }
         ensures { out.new ≡ frame_of self.now.capture.now f }
     {
         self.received(f, out);
@@ -228,6 +230,7 @@ impl Reader<'_> {
     }
 
     // Block b of super frame f, whose bytes are s, is taken in.
+    // Kept: `f < 8` and `b < fec_blocks`, here and wherever f and b are, bound an index: a struct of one number would be opened at each use.
     fn take_block(&self, s: &[u8], f: usize, b: usize, x: BlockTally) -> BlockTally
         requires { (f < 8) × (b < fec_blocks) }
         ensures { result ≡ block_taken self.now.m0 s.now f b x }
@@ -253,8 +256,8 @@ impl Reader<'_> {
     }
 
     // Super frame f is taken in; its bytes go into the buffer lent.
-    fn take_frame(&self, f: usize, x: BlockTally, buffer: &mut [u8]) -> BlockTally
-        requires { (f < 8) × (length buffer.old ≡ super_bytes) × (x ≡ frames_to self.now.m0 self.now.capture.now f) }
+    fn take_frame(&self, f: usize, x: BlockTally, buffer: &mut Frame) -> BlockTally
+        requires { (f < 8) × (x ≡ frames_to self.now.m0 self.now.capture.now f) }
         ensures { result ≡ frames_to self.now.m0 self.now.capture.now (f + 1) }
     {
         self.frame(f, buffer);
@@ -267,8 +270,7 @@ impl Reader<'_> {
     }
 
     // The pass over all super frames.
-    fn tally_frames(&self, buffer: &mut [u8]) -> BlockTally
-        requires { length buffer.old ≡ super_bytes }
+    fn tally_frames(&self, buffer: &mut Frame) -> BlockTally
         ensures { result ≡ frames_to self.now.m0 self.now.capture.now self.now.n }
     {
         let mut x = BlockTally {
@@ -285,9 +287,8 @@ impl Reader<'_> {
     // The information and the parity of all super frames, one after the other.
     // Kept: here, in write_blocks and in received the parts are cut by index. Over chunks_exact_mut no invariant can name what was written to
     // them (tried in the crate code, where groups are written), and an element's parts are of 14 and 15 bytes, which no chunks method cuts.
-    fn write_frames(&self, buffer: &mut [u8], info: &mut [u8], parity: &mut [u8])
-        requires { (length buffer.old ≡ super_bytes) × (length info.old ≡ info_length self.now.n)
-            × (length parity.old ≡ parity_length self.now.n) }
+    fn write_frames(&self, buffer: &mut Frame, info: &mut [u8], parity: &mut [u8])
+        requires { (length info.old ≡ info_length self.now.n) × (length parity.old ≡ parity_length self.now.n) }
         ensures { (info.new ≡ info_of self.now.n (fec_in (repaired self.now.capture.now)))
             × (parity.new ≡ parity_of self.now.n (fec_in (repaired self.now.capture.now))) }
     {
@@ -389,8 +390,7 @@ fn is_crc_off(crcs: &[u32; 256], s: &[u8], b: usize) -> bool
 }
 
 // Whether a pad bit is not zero. The last of its bytes reaches past the end, where there are zeros.
-fn is_pad_off(s: &[u8]) -> bool
-    requires { length s.now ≡ super_bytes }
+fn is_pad_off(s: &Frame) -> bool
     ensures { result ≡ pad_off s.now }
 {
     let mut pad = [0u8; PAD_BYTES];

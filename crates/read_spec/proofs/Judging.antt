@@ -5,7 +5,7 @@ use mathlib.Core.Path.{◌≡◌, refl, sym, ap, ap₂, ◌∙◌}
 use mathlib.Core.List.{List, [], ◌∷◌}
 use lib.Dec.{ltb}
 use lib.ListN.{length}
-use Rattle.std.specs.Prelude.{Option, Some, None, Result, Ok, Err, IfOk, IfErr}
+use Rattle.std.specs.Prelude.{Option, Some, None, Ok, Err, IfOk, IfErr}
 use Rattle.std.proofs.lemmas.Result.{IfOk-at_ok, IfErr-at_err}
 use Rattle.prelude.specs.Loops.{first, count}
 use Rattle.answer.specs.Numbers.{all_done, wrong_length, beyond_repair, filler_not_zero, wrong_mbas, wrong_crc, pad_not_zero}
@@ -14,10 +14,9 @@ use Rattle.answer.specs.Demand1.{Exactly, Demand1}
 use Rattle.answer.specs.Outcomes.{Outcome, written}
 use Rattle.answer.specs.Steps.{NoFault, RowPassed, Passed, first_found}
 use Rattle.answer.specs.declared.Answer.{Answer}
-use Rattle.answer.specs.Refusals.{refusal_number, refused_at, found_at, answered}
+use Rattle.answer.specs.Refusals.{refusal_number, found_at, answered}
 use Rattle.answer.specs.declared.refusal.Refusal.{Refusal}
 use Rattle.answer.specs.declared.refusal.Refused.{Refused}
-use Rattle.answer.proofs.Results.{same_numbers}
 use Rattle.answer.proofs.Table.{exactly, demand_1}
 use Rattle.answer.proofs.Buffers.{which_buffer}
 use Rattle.answer.proofs.Turns.{in_turn_law, passed, early_refused, early_passed, right_length}

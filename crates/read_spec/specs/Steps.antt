@@ -1,9 +1,9 @@
 -- The parts in which the code reads a capture: what its private functions are asked and answer. The laws (`proofs/`) say that together
 -- they are `specs/Read`. Assumes nothing: these are definitions.
-use Rattle.std.specs.Prelude.{ℕ, Option, Some, None, ◌+◌, ◌-◌, ◌*◌, ◌/◌, ◌%◌, ◌≤◌, ◌<◌, Bool, not, cond, ◌≡◌, List, ltb, eqb, length}
+use Rattle.std.specs.Prelude.{ℕ, Option, Some, None, ◌+◌, ◌-◌, ◌*◌, ◌/◌, ◌%◌, ◌≤◌, ◌<◌, Bool, not, cond, ◌≡◌, List, eqb, length}
 use Rattle.prelude.specs.Lists.{from_index}
 use Rattle.bits.specs.Bits.{num, bit_at, pack}
-use Rattle.prelude.specs.Loops.{first, count}
+use Rattle.prelude.specs.Loops.{count}
 use Rattle.answer.specs.Numbers.{beyond_repair, filler_not_zero, wrong_mbas, wrong_crc, pad_not_zero}
 use Rattle.answer.specs.Rows.{done, refused}
 use Rattle.answer.specs.Outcomes.{written}

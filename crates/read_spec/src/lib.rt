@@ -11,7 +11,7 @@ use answer::{Refusal, Refused};
 
 // What the pass over the words found: the first word beyond repair, the first filler word that is not zero, and how many words had checks
 // that were not zero.
-#[derive(Clone, Copy)]
+#[derive(Clone, Copy, Debug, PartialEq, Eq)]
 pub struct WordTally {
     pub beyond: Option<u64>,
     pub filler: Option<u64>,
@@ -20,7 +20,7 @@ pub struct WordTally {
 
 // What the pass over the super frames found: the first FEC block whose MBAS, and whose CRC, is wrong, and the first super frame whose pad
 // is not zero.
-#[derive(Clone, Copy)]
+#[derive(Clone, Copy, Debug, PartialEq, Eq)]
 pub struct BlockTally {
     pub mbas: Option<u64>,
     pub crc: Option<u64>,

@@ -84,42 +84,42 @@ fn chosen<W: Write>(out: &mut W) -> io::Result<()> {
 // The number and an entry of a head: the first and the last of each.
 const ENDS: [(u64, u64); 6] = [(1, 0), (1, 0), (2, 0), (2, 1), (32, 0), (32, 31)];
 
-// A kind at the edges of its field.
-fn kinds_at<W: Write>(out: &mut W, n: u64, e: u64) -> io::Result<()> {
-    for kind in &KINDS {
-        let c = Writing {
-            kind: Some((e, *kind)),
-            ..Writing::right(n)
-        };
-        c.run(out)?;
+// Heads that are right but for one field of an entry, which is at each edge of its own.
+fn at_ends<W: Write, F: Fn(u64, u64, u64) -> Writing>(
+    out: &mut W,
+    edges: &[u64],
+    writing: F,
+) -> io::Result<()>
+    requires { F.IsAlwaysCallable writing }
+{
+    for (n, e) in &ENDS {
+        for edge in edges {
+            writing(*n, *e, *edge).run(out)?;
+        }
     }
     Ok(())
 }
 
 fn kinds<W: Write>(out: &mut W) -> io::Result<()> {
-    for (n, e) in &ENDS {
-        kinds_at(out, *n, *e)?;
-    }
-    Ok(())
-}
-
-// A length at the edges of its field.
-fn lengths_at<W: Write>(out: &mut W, n: u64, e: u64) -> io::Result<()> {
-    for length in &LENGTHS {
-        let c = Writing {
-            length: Some((e, *length)),
+    at_ends(
+        out,
+        &KINDS,
+        |n, e, kind| Writing {
+            kind: Some((e, kind)),
             ..Writing::right(n)
-        };
-        c.run(out)?;
-    }
-    Ok(())
+        },
+    )
 }
 
 fn lengths<W: Write>(out: &mut W) -> io::Result<()> {
-    for (n, e) in &ENDS {
-        lengths_at(out, *n, *e)?;
-    }
-    Ok(())
+    at_ends(
+        out,
+        &LENGTHS,
+        |n, e, length| Writing {
+            length: Some((e, length)),
+            ..Writing::right(n)
+        },
+    )
 }
 
 // Each of the three lengths is one too few, right, or one too many: the digits of k to base 3.

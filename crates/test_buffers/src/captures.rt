@@ -118,10 +118,7 @@ fn edit_into<W: Write>(
 
 // The spare bits are the low seven of byte 32, which stand behind the 257.
 fn client(spare: u8) -> [u8; LONG_BLOCK] {
-    let mut bits = [0u8; LONG_BLOCK];
-    test_input::fill(306, &mut bits);
-    bits[32] = bits[32] & 128 | spare;
-    bits
+    lent::with_spare(306, 32, 128, spare)
 }
 
 fn block_parity() -> [u8; LONG_PARITY] {

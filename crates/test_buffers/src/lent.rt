@@ -17,3 +17,13 @@ pub fn spare_said(spare: u8) -> &'static str {
         " with a spare bit set"
     }
 }
+
+// Bytes made from a seed. Of byte `last` the bits under the mask stay, and its spare bits are those that are given.
+pub fn with_spare<const N: usize>(seed: u64, last: usize, mask: u8, spare: u8) -> [u8; N] {
+    let mut bytes = [0u8; N];
+    test_input::fill(seed, &mut bytes);
+    if let Some(byte) = bytes.get_mut(last) {
+        *byte = *byte & mask | spare;
+    }
+    bytes
+}

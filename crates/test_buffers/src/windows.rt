@@ -37,10 +37,7 @@ fn map_into<W: Write>(
 
 // The spare bits are the low four of the group's last byte.
 fn group(spare: u8) -> [u8; LONG_GROUPS] {
-    let mut groups = [0u8; LONG_GROUPS];
-    test_input::fill(995, &mut groups);
-    groups[128] = groups[128] & 240 | spare;
-    groups
+    lent::with_spare(995, 128, 240, spare)
 }
 
 fn map<W: Write>(out: &mut W, c: u64, spare: u8, p: u64) -> io::Result<()> {

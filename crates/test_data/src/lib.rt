@@ -77,7 +77,7 @@ pub fn digest<E: Element>(s: &[E]) -> u64
 }
 
 // The generator, by its state: the seed at the start, which may not be 0.
-#[derive(Clone, Copy)]
+#[derive(Clone, Copy, Debug, PartialEq, Eq)]
 pub struct Generator {
     pub state: u64,
 }

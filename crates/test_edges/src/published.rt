@@ -1,12 +1,7 @@
 // The CRC's check value, the first 24 bits of the scrambler, 001 Tables 7 and 12 in their order, and the table of 002, "Multi-Block Alignment Signal".
+use crate::starred;
 use std::io::{self, Write};
 use symbol::Symbol;
-
-fn check_value<W: Write>(out: &mut W) -> io::Result<()> {
-    let t = crc::table();
-    let value = u64::from(crc::crc(&t, b"123456789"));
-    writeln!(out, "CRC of 123456789: {value:016x}")
-}
 
 fn scrambler<W: Write>(out: &mut W) -> io::Result<()> {
     let s = scrambler::sequence();
@@ -46,7 +41,7 @@ fn mbas<W: Write>(out: &mut W) -> io::Result<()> {
 }
 
 pub fn vectors<W: Write>(out: &mut W) -> io::Result<()> {
-    check_value(out)?;
+    starred::crc_of(out, "123456789", b"123456789")?;
     scrambler(out)?;
     table_7(out)?;
     table_12(out)?;

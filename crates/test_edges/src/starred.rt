@@ -2,7 +2,7 @@
 use gmp::Kind;
 use std::io::{self, Write};
 
-fn crc_of<W: Write>(out: &mut W, name: &str, s: &[u8]) -> io::Result<()> {
+pub fn crc_of<W: Write>(out: &mut W, name: &str, s: &[u8]) -> io::Result<()> {
     let t = crc::table();
     let value = u64::from(crc::crc(&t, s));
     writeln!(out, "CRC of {name}: {value:016x}")

@@ -9,7 +9,7 @@ use Rattle.gmp_map.proofs.unmap.Goals as goal
 
 pub returns-in_err-d : goal.returns-in_err-d
 returns-in_err-d c = let p = err_from_is_err_and c.from_residual.result c.from_residual.ensures.1 in
-    rw (p.1, p.2) (meets_refused _ c.in_err-d.ensures (not_done _))
+    rw (p.1, p.2) (meets_refused _ c.in_err-d.ensures (not_done c.in_err-d.field-0.0))
 
 pub invariant_of-places : goal.invariant_of-places
 invariant_of-places c = let a = c.args in

@@ -2,12 +2,8 @@
 use Rattle.std.proofs.lemmas.Result.{err_from_is_err_and}
 use Rattle.answer.proofs.Results.{not_done}
 use Rattle.read_spec.proofs.Judging.{late_done, late_refused}
-use borrow.Author.Rules.{rules}
 use mathlib.Core.Path.{refl}
 use Rattle.read.proofs.Reader.read.Goals as goal
-
-pub write_frames-requires : goal.write_frames-requires
-write_frames-requires c = (search rules, c.requires.1, c.requires.2)
 
 pub returns-in_err-seen : goal.returns-in_err-seen
 returns-in_err-seen c = let r = c.args.self.now in

@@ -24,10 +24,11 @@ loop-l-preserved c = let h = c.loop-l in
     let k = first_whole_byte (h.l + 1) - first_whole_byte h.l in
     let x = c.from_bit in
     let next = c.element-next.ensures in
+    let long : length a.out.now ≡ super_bytes = search rules in
     let len : length (take k (drop (first_whole_byte h.l) h.out)) ≡ k = part_long (first_whole_byte h.l) k h.out
-    (omega (arith, h.invariant.0.len, c.requires.1, c.loop-l-test.true)) in (
+    (omega (arith, h.invariant.0.len, long, c.loop-l-test.true)) in (
       bytes_filled k (first_whole_byte (h.l + 1)) (length (take k (drop (first_whole_byte h.l) h.out))) (λ j. get_or x.result j 0)
-          h.invariant.0 (omega arith) (omega (arith, c.requires.1, c.loop-l-test.true)) len c.put_bytes.ensures
+          h.invariant.0 (omega arith) (omega (arith, long, c.loop-l-test.true)) len c.put_bytes.ensures
           (λ j m. element_byte (repaired a.self.now.capture.now) x.result a.f h.l k j
           (x.ensures ∙ ap (λ (v : List ℕ). pack word_bytes (from_index (bit_at v) (h.l % 8))) (c.follow.ensures ∙ ap₂ followed h.invariant.1 next))
           refl m),

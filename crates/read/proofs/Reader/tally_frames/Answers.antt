@@ -7,7 +7,7 @@ use borrow.Author.Rules.{rules}
 use Rattle.read.proofs.Reader.tally_frames.Goals as goal
 
 pub loop-f-init : goal.loop-f-init
-loop-f-init c = (frames_none _ _, omega arith, search rules)
+loop-f-init c = (frames_none _ _, omega arith)
 
 pub returns : goal.returns
 returns c = let l = c.loop-f in

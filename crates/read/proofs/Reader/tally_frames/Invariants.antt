@@ -7,4 +7,4 @@ use Rattle.read_spec.specs.Steps.{frames_to}
 use Rattle.read.proofs.Reader.tally_frames.Given as goal
 
 abbrev pub invariant-loop-f : goal.invariant-loop-f
-invariant-loop-f l = (l.x ≡ frames_to l.self.m0 l.self.capture.now l.f) × (l.f ≤ l.self.n) × (length l.buffer ≡ super_bytes)
+invariant-loop-f l = (l.x ≡ frames_to l.self.m0 l.self.capture.now l.f) × (l.f ≤ l.self.n)

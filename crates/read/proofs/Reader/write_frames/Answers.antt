@@ -9,7 +9,7 @@ use borrow.Author.Rules.{rules}
 use Rattle.read.proofs.Reader.write_frames.Goals as goal
 
 pub loop-f-init : goal.loop-f-init
-loop-f-init c = (filled_none, filled_none, omega arith, search rules)
+loop-f-init c = (filled_none, filled_none, omega arith)
 
 pub loop-f-preserved : goal.loop-f-preserved
 loop-f-preserved c = let h = c.loop-f in
@@ -24,7 +24,6 @@ loop-f-preserved c = let h = c.loop-f in
       bytes_filled (p + super_parity_bytes - p) (super_parity_bytes * (h.f + 1)) super_parity_bytes _ h.invariant.1 (omega arith) (omega arith) (omega arith) w.1
           (λ j l. parity_whole cap _ h.f j e (omega arith)),
       omega arith,
-      search rules,
     )
 
 pub returns : goal.returns
