@@ -12,7 +12,9 @@ pub const ARGUMENT_BYTES: usize = 4096;
 
 impl<W: Write> Shell<'_, W> {
     // Argument i, put into the space that is lent, and empty where it is missing or longer. An argument is bytes, and need not be text.
-    pub fn argument<'s>(&self, i: usize, space: &'s mut [u8]) -> &'s [u8] {
+    pub fn argument<'s>(&self, i: usize, space: &'s mut [u8]) -> &'s [u8]
+        ensures { length result.now ≤ length space.old }
+    {
         match self.rt.arg(i, space) {
             Ok(k) => &space[..k],
             Err(_) => &[],
