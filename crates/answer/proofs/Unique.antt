@@ -8,6 +8,7 @@ use Rattle.answer.proofs.AnswerFromResultU64Refused.from.Reads as from
 use Rattle.answer.proofs.refusal.Refusal.number.Reads as number
 use Rattle.answer.proofs.refusal.Refusal.at.Reads as at
 use Rattle.answer.proofs.buffer_place.Reads as buffer-place
+use Rattle.answer.proofs.refuse_when.Reads as refuse-when
 use Rattle.answer.proofs.refuse_if.Reads as refuse-if
 use Rattle.answer.proofs.refuse_at.Reads as refuse-at
 use Rattle.answer.proofs.refuse_length.Reads as refuse-length
@@ -29,6 +30,9 @@ one_refusal_at κs a x y s t p q = only p q
 
 pub one_buffer_place : (κs : _) (a : _) (x y : _) (s t : _) → buffer-place.Post κs a x s → buffer-place.Post κs a y t → x ≡ y
 one_buffer_place κs a x y s t p q = only p q
+
+pub one_refuse_when : (κs : _) (a : _) (x y : _) (s t : _) → refuse-when.Post κs a x s → refuse-when.Post κs a y t → x ≡ y
+one_refuse_when κs a x y s t p q = only p q
 
 pub one_refuse_if : (κs : _) (a : _) (x y : _) (s t : _) → refuse-if.Post κs a x s → refuse-if.Post κs a y t → x ≡ y
 one_refuse_if κs a x y s t p q = only p q

@@ -61,7 +61,7 @@ pub fn buffer_place(position: u64) -> u64
 }
 
 // One test of several in turn: where it holds the call is refused, else it goes on.
-pub fn refuse_if(holds: bool, refusal: Refusal, place: u64) -> Result<(), Refused>
+pub fn refuse_when(holds: bool, refusal: Refusal, place: u64) -> Result<(), Refused>
     ensures { result ≡ tested holds (refused_at refusal place) }
 {
     if holds {
@@ -69,6 +69,13 @@ pub fn refuse_if(holds: bool, refusal: Refusal, place: u64) -> Result<(), Refuse
     } else {
         Ok(())
     }
+}
+
+// A test by any number, on what C is handed: where it holds the call is refused, else what comes next answers.
+pub fn refuse_if(holds: bool, number: u64, place: u64, next: Answer) -> Answer
+    ensures { result ≡ cond holds (refused number place) next }
+{
+    if holds { refuse(number, place) } else { next }
 }
 
 // A search of several in turn: refused at the place that it found, else it goes on.
@@ -85,5 +92,5 @@ pub fn refuse_at(refusal: Refusal, found: Option<u64>) -> Result<(), Refused>
 pub fn refuse_length(i: u64, long: u64, stated: u64) -> Result<(), Refused>
     ensures { result ≡ tested (wrong stated long) (refused_at WrongLength (buffer_place i)) }
 {
-    refuse_if(long != stated, Refusal::WrongLength, buffer_place(i))
+    refuse_when(long != stated, Refusal::WrongLength, buffer_place(i))
 }

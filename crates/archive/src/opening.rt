@@ -32,9 +32,9 @@ pub(crate) fn judge(
 fn judge_file(size: u64, first: &[u8]) -> Result<u64, Refused>
     ensures { answered result ≡ answer_of (open_late_rows size first.now) (count_in first.now) }
 {
-    answer::refuse_if(is_no_archive(size, first), Refusal::NotArchive, 0)?;
+    answer::refuse_when(is_no_archive(size, first), Refusal::NotArchive, 0)?;
     let n = field::number_at(2, first, 16);
-    answer::refuse_if(is_bad_count(size, n), Refusal::BadEntry, 0)?;
+    answer::refuse_when(is_bad_count(size, n), Refusal::BadEntry, 0)?;
     judge_entries(size, first, n as usize)
 }
 

@@ -15,7 +15,7 @@ const FIELD_MOST: u64 = u32::MAX as u64;
 pub(crate) fn judge(count: u64, kinds: &[u64], lengths: &[u64], head: u64) -> Result<u64, Refused>
     ensures { answered result ≡ write_answer count kinds.now lengths.now head }
 {
-    answer::refuse_if(outside(count, kinds, lengths), Refusal::OutsideSet, 0)?;
+    answer::refuse_when(outside(count, kinds, lengths), Refusal::OutsideSet, 0)?;
     answer::refuse_length(1, kinds.len() as u64, count)?;
     answer::refuse_length(2, lengths.len() as u64, count)?;
     let bytes = field::entry_from(count as usize) as u64;

@@ -78,7 +78,7 @@ fn judge(
     answer::refuse_length(2, parity, sizes::PARITY_BYTES as u64)?;
     answer::refuse_length(3, capture, capture_bytes)?;
     answer::refuse_length(4, list, sizes::LIST_LENGTH as u64)?;
-    answer::refuse_if(spare, Refusal::SpareBit, answer::buffer_place(1))?;
+    answer::refuse_when(spare, Refusal::SpareBit, answer::buffer_place(1))?;
     Ok(0)
 }
 

@@ -29,7 +29,7 @@ pub fn run(c: u64, j: u64) -> Result<Run, Refused>
 pub fn runs(c: u64, j: u64) -> Result<u64, Refused>
     ensures { answered result ≡ runs_of c j }
 {
-    answer::refuse_if(outside_place(c, j), Refusal::OutsideSet, 0)?;
+    answer::refuse_when(outside_place(c, j), Refusal::OutsideSet, 0)?;
     if is_data(c, j) {
         return Ok(data_runs(c, j));
     }

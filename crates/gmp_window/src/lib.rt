@@ -14,11 +14,11 @@ use sizes::{GROUP_BITS, PAIR_BYTES};
 pub fn map_answer(c: u64, f: u64, n: u64, groups: &[u8], window: usize) -> Result<u64, Refused>
     ensures { answered result ≡ map_answer c f n groups.now window }
 {
-    answer::refuse_if(outside_window(c, f, n), Refusal::OutsideSet, 0)?;
+    answer::refuse_when(outside_window(c, f, n), Refusal::OutsideSet, 0)?;
     let d = gmp::data_in(c, f, n);
     answer::refuse_length(1, groups.len() as u64, group_bytes(d))?;
     answer::refuse_length(2, window as u64, window_bytes(n))?;
-    answer::refuse_if(
+    answer::refuse_when(
         spare_set(d, groups),
         Refusal::SpareBit,
         answer::buffer_place(1),
@@ -30,7 +30,7 @@ pub fn map_answer(c: u64, f: u64, n: u64, groups: &[u8], window: usize) -> Resul
 pub fn unmap_answer(c: u64, f: u64, n: u64, window: usize, groups: usize) -> Result<u64, Refused>
     ensures { answered result ≡ unmap_answer c f n window groups }
 {
-    answer::refuse_if(outside_window(c, f, n), Refusal::OutsideSet, 0)?;
+    answer::refuse_when(outside_window(c, f, n), Refusal::OutsideSet, 0)?;
     let d = gmp::data_in(c, f, n);
     answer::refuse_length(1, window as u64, window_bytes(n))?;
     answer::refuse_length(2, groups as u64, group_bytes(d))?;

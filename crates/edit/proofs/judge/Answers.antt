@@ -50,10 +50,10 @@ returns-in_err-refuse_length-4 c = let p = err_from_is_err_and c.from_residual-i
     let h = test_held _ c.in_err-refuse_length-4.ensures in
     rw (p.1, p.2, ← h.1, in_turn_law, ← c.one_of.ensures, c.if-not-one_of.false, test_gone _ c.in_ok-refuse_length.ensures, test_gone _ c.in_ok-refuse_length-2.ensures, test_gone _ c.in_ok-refuse_length-3.ensures, h.0)
 
-pub returns-in_err-refuse_if : goal.returns-in_err-refuse_if
+pub returns-in_err-refuse_when : goal.returns-in_err-refuse_when
 unfolding edit_early_rows in_turn row_then faults_then
-returns-in_err-refuse_if c = let p = err_from_is_err_and c.from_residual-in_err-refuse_if.result c.from_residual-in_err-refuse_if.ensures.1 in
-    let h = test_held _ c.in_err-refuse_if.ensures in
+returns-in_err-refuse_when c = let p = err_from_is_err_and c.from_residual-in_err-refuse_when.result c.from_residual-in_err-refuse_when.ensures.1 in
+    let h = test_held _ c.in_err-refuse_when.ensures in
     rw (p.1, p.2, ← h.1, c.buffer_place.ensures, in_turn_law, ← c.one_of.ensures, c.if-not-one_of.false, test_gone _ c.in_ok-refuse_length.ensures, test_gone _ c.in_ok-refuse_length-2.ensures, test_gone _ c.in_ok-refuse_length-3.ensures, test_gone _ c.in_ok-refuse_length-4.ensures, h.0)
 
 pub returns : goal.returns
@@ -66,5 +66,5 @@ returns c = rw (
   test_gone _ c.in_ok-refuse_length-2.ensures,
   test_gone _ c.in_ok-refuse_length-3.ensures,
   test_gone _ c.in_ok-refuse_length-4.ensures,
-  test_gone _ c.in_ok-refuse_if.ensures,
+  test_gone _ c.in_ok-refuse_when.ensures,
 )

@@ -8,17 +8,17 @@ use Rattle.archive_spec.proofs.Judging.{write_counted}
 use Rattle.archive.proofs.writing.judge.Goals as goal
 
 pub entry_from-bytes-requires : goal.entry_from-bytes-requires
-entry_from-bytes-requires c = omega (arith, write_counted _ _ _ c.outside.ensures (test_gone _ c.in_ok-refuse_if.ensures))
+entry_from-bytes-requires c = omega (arith, write_counted _ _ _ c.outside.ensures (test_gone _ c.in_ok-refuse_when.ensures))
 
-pub returns-in_err-refuse_if : goal.returns-in_err-refuse_if
+pub returns-in_err-refuse_when : goal.returns-in_err-refuse_when
 unfolding write_answer in_turn row_then faults_then
-returns-in_err-refuse_if c = let h = test_held _ c.in_err-refuse_if.ensures in
+returns-in_err-refuse_when c = let h = test_held _ c.in_err-refuse_when.ensures in
     rw (handed_on c.from_residual.ensures.1, ← h.1, in_turn_law, ← c.outside.ensures, h.0)
 
 pub returns-in_err-refuse_length : goal.returns-in_err-refuse_length
 unfolding write_answer in_turn row_then faults_then
 returns-in_err-refuse_length c = let h = test_held _ c.in_err-refuse_length.ensures in
-    rw (handed_on c.from_residual-in_err-refuse_length.ensures.1, ← h.1, in_turn_law, ← c.outside.ensures, test_gone _ c.in_ok-refuse_if.ensures, h.0)
+    rw (handed_on c.from_residual-in_err-refuse_length.ensures.1, ← h.1, in_turn_law, ← c.outside.ensures, test_gone _ c.in_ok-refuse_when.ensures, h.0)
 
 pub returns-in_err-refuse_length-2 : goal.returns-in_err-refuse_length-2
 unfolding write_answer in_turn row_then faults_then
@@ -28,7 +28,7 @@ returns-in_err-refuse_length-2 c = let h = test_held _ c.in_err-refuse_length-2.
       ← h.1,
       in_turn_law,
       ← c.outside.ensures,
-      test_gone _ c.in_ok-refuse_if.ensures,
+      test_gone _ c.in_ok-refuse_when.ensures,
       test_gone _ c.in_ok-refuse_length.ensures,
       h.0,
     )
@@ -42,7 +42,7 @@ returns-in_err-refuse_length-3 c = let h = test_held _ c.in_err-refuse_length-3.
       in_turn_law,
       ← c.outside.ensures,
       ← c.entry_from-bytes.ensures,
-      test_gone _ c.in_ok-refuse_if.ensures,
+      test_gone _ c.in_ok-refuse_when.ensures,
       test_gone _ c.in_ok-refuse_length.ensures,
       test_gone _ c.in_ok-refuse_length-2.ensures,
       h.0,
@@ -55,7 +55,7 @@ returns c =
       in_turn_law,
       ← c.outside.ensures,
       ← c.entry_from-bytes.ensures,
-      test_gone _ c.in_ok-refuse_if.ensures,
+      test_gone _ c.in_ok-refuse_when.ensures,
       test_gone _ c.in_ok-refuse_length.ensures,
       test_gone _ c.in_ok-refuse_length-2.ensures,
       test_gone _ c.in_ok-refuse_length-3.ensures,
