@@ -74,7 +74,7 @@ fn read_into<W: Write>(
     name(out, "read", n)?;
     write!(out, " {} {} {}", capture.len(), info.len(), parity.len())?;
     test_print::outcome(out, ": ", capture::read(n, 7, capture, info, parity))?;
-    test_print::inputs(out, info, parity)
+    test_print::inputs(out, test_data::digest(info), test_data::digest(parity))
 }
 
 // The capture, and zeros behind it.

@@ -24,7 +24,7 @@ fn code_into<W: Write>(
     write!(out, "N {n}")?;
     test_print::outcome(out, " code: ", coded)?;
     write!(out, " capture{}", Change { before, after })?;
-    test_print::inputs(out, info, parity)
+    test_print::inputs(out, test_data::digest(info), test_data::digest(parity))
 }
 
 fn code_from<W: Write>(

@@ -45,7 +45,7 @@ fn read_in<W: Write>(
     test_input::fill(997, parity);
     let read = capture::read(call.n, call.m0, capture, info, parity);
     test_print::outcome(out, ": ", read)?;
-    test_print::inputs(out, info, parity)
+    test_print::inputs(out, test_data::digest(info), test_data::digest(parity))
 }
 
 // Reads a capture into buffers of the call's lengths and writes what came.

@@ -59,7 +59,7 @@ fn read_into<W: Write>(
     parity: &mut [u8],
 ) -> io::Result<()> {
     test_print::outcome(out, what, capture::read(n, m0, capture, info, parity))?;
-    test_print::inputs(out, info, parity)
+    test_print::inputs(out, test_data::digest(info), test_data::digest(parity))
 }
 
 // Into zeros.

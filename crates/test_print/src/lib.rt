@@ -3,12 +3,13 @@
 
 use answer::{Answer, Refused};
 use gmp::Kind;
+use std::convert::AsSlice;
 use std::fmt;
 use std::io::{self, Write};
 
 // A code word, byte by byte, behind its name.
-pub fn word<W: Write>(out: &mut W, name: &str, w: [u8; 16]) -> io::Result<()> {
-    write!(out, "{name}")?;
+pub fn word<W: Write, N: AsSlice<u8> + Drop>(out: &mut W, name: N, w: [u8; 16]) -> io::Result<()> {
+    out.write_all(name.as_slice())?;
     for x in &w {
         write!(out, "{x:02x}")?;
     }
@@ -38,15 +39,16 @@ fn stuff_run<W: Write>(out: &mut W, c: u64, j: u64) -> io::Result<u64> {
 }
 
 // What a call answered, as the three numbers that C is handed, behind its name.
-pub fn outcome<W: Write>(
+pub fn outcome<W: Write, N: AsSlice<u8> + Drop>(
     out: &mut W,
-    name: &str,
+    name: N,
     answered: Result<u64, Refused>,
 ) -> io::Result<()> {
     let a = Answer::from(answered);
+    out.write_all(name.as_slice())?;
     write!(
         out,
-        "{name}number {} place {} count {}",
+        "number {} place {} count {}",
         a.number, a.place, a.count
     )
 }
@@ -65,8 +67,6 @@ impl fmt::Display for Change {
 }
 
 // Digests of information and parity end a line.
-pub fn inputs<W: Write>(out: &mut W, info: &[u8], parity: &[u8]) -> io::Result<()> {
-    let info = test_data::digest(info);
-    let parity = test_data::digest(parity);
+pub fn inputs<W: Write>(out: &mut W, info: u64, parity: u64) -> io::Result<()> {
     writeln!(out, " information {info:016x} parity {parity:016x}")
 }

@@ -98,7 +98,7 @@ pub fn runs<W: Write>(shell: &mut Shell<W>) -> io::Result<()> {
     };
     if sizes::PLACES < c {
         let refused = Refusal::OutsideSet.at(0);
-        shell.refused(refused, &[])?;
+        shell.refused::<&str>(refused, &[])?;
         return shell.sets(refused, b"  C is 0 to 10220\n");
     }
     gmp_print::print(&mut shell.out, c)

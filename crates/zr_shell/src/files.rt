@@ -10,27 +10,37 @@ use std::io::{ErrorKind, Read, Write};
 // The bytes of the longest argument that is looked at. No path is longer.
 pub const ARGUMENT_BYTES: usize = 4096;
 
+// Puts argument i at the start of `space` and answers its length, or 0 where it is missing or longer. An argument is bytes, and need not be text.
+pub fn argument(rt: &HostRuntime, i: usize, space: &mut [u8]) -> usize
+    ensures { result ≤ length space.new }
+{
+    rt.arg(i, space).unwrap_or(0)
+}
+
+// How many arguments the program was started with, its own name among them.
+pub fn argument_count(rt: &HostRuntime) -> usize {
+    let mut space = [0u8; ARGUMENT_BYTES];
+    // Kept: `std::env::args` counts them too, but on the heap.
+    for i in 0..usize::MAX {
+        if let Err(FillError::NotPresent) = rt.arg(i, &mut space) {
+            return i;
+        }
+    }
+    usize::MAX
+}
+
 impl<W: Write> Shell<'_, W> {
-    // Argument i, put into the space that is lent, and empty where it is missing or longer. An argument is bytes, and need not be text.
+    // Argument i, put into the space that is lent, and empty where it is missing or longer.
     pub fn argument<'s>(&self, i: usize, space: &'s mut [u8]) -> &'s [u8]
         ensures { length result.now ≤ length space.old }
     {
-        match self.rt.arg(i, space) {
-            Ok(k) => &space[..k],
-            Err(_) => &[],
-        }
+        let k = argument(self.rt, i, space);
+        &space[..k]
     }
 
     // How many arguments the program was started with, its own name among them.
     pub fn argument_count(&self) -> usize {
-        let mut space = [0u8; ARGUMENT_BYTES];
-        // Kept: `std::env::args` counts them too, but on the heap.
-        for i in 0..usize::MAX {
-            if let Err(FillError::NotPresent) = self.rt.arg(i, &mut space) {
-                return i;
-            }
-        }
-        usize::MAX
+        argument_count(self.rt)
     }
 
     // The number that argument i is.
@@ -65,7 +75,9 @@ impl<W: Write> Shell<'_, W> {
     }
 
     // The same, and answers the part that holds its bytes.
-    pub fn loaded<'s>(&mut self, i: usize, into: &'s mut [u8]) -> io::Result<Option<&'s mut [u8]>> {
+    pub fn loaded<'s>(&mut self, i: usize, into: &'s mut [u8]) -> io::Result<Option<&'s mut [u8]>>
+        ensures { IfOk result (λ r. IfSome r (λ part. length part.now ≤ length into.old)) }
+    {
         match self.load(i, into)? {
             Some(bytes) => Ok(Some(&mut into[..bytes])),
             None => Ok(None),

@@ -3,6 +3,7 @@
 use crate::Shell;
 use crate::files::ARGUMENT_BYTES;
 use answer::{Refusal, Refused};
+use std::convert::AsSlice;
 use std::io;
 use std::io::Write;
 
@@ -22,13 +23,14 @@ impl<W: Write> Shell<'_, W> {
     }
 
     // Refused, with the number, the place and what they mean. The names are those of the call's buffers in their order.
-    pub fn refused(&mut self, refused: Refused, names: &[&str]) -> io::Result<()> {
+    pub fn refused<N: AsSlice<u8>>(&mut self, refused: Refused, names: &[N]) -> io::Result<()> {
         write!(self.out, "refused {}", refused.refusal.number())?;
         if let Some(what) = counted(refused) {
             write!(self.out, " at {what} {}", refused.place)?;
         }
         if let Some(name) = buffer(refused, names) {
-            write!(self.out, ", the {name}")?;
+            write!(self.out, ", the ")?;
+            self.out.write_all(name.as_slice())?;
         }
         writeln!(self.out, ": {}", refused.refusal)
     }
@@ -130,11 +132,11 @@ fn counted(refused: Refused) -> Option<&'static str> {
 }
 
 // The name of the buffer that is at fault, where one is.
-fn buffer<'a>(refused: Refused, names: &[&'a str]) -> Option<&'a str> {
+fn buffer<N>(refused: Refused, names: &[N]) -> Option<&N> {
     match refused.refusal {
         Refusal::WrongLength | Refusal::SpareBit => {
             let k = refused.place.checked_sub(1)?;
-            names.get(k as usize).copied()
+            names.get(k as usize)
         }
         _ => None,
     }
