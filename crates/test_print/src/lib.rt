@@ -1,7 +1,7 @@
 // What several programs write alike. No contract can say what is written: the programs are held to texts that a second program made.
 #![tactic(auto)]
 
-use answer::{Answer, Refused};
+use answer::Answer;
 use gmp::Kind;
 use std::convert::AsSlice;
 use std::fmt;
@@ -39,12 +39,12 @@ fn stuff_run<W: Write>(out: &mut W, c: u64, j: u64) -> io::Result<u64> {
 }
 
 // What a call answered, as the three numbers that C is handed, behind its name.
-pub fn outcome<W: Write, N: AsSlice<u8> + Drop>(
+pub fn outcome<W: Write, N: AsSlice<u8> + Drop, A: Into<Answer>>(
     out: &mut W,
     name: N,
-    answered: Result<u64, Refused>,
+    answered: A,
 ) -> io::Result<()> {
-    let a = Answer::from(answered);
+    let a: Answer = answered.into();
     out.write_all(name.as_slice())?;
     write!(
         out,
