@@ -1,4 +1,5 @@
-// The commands on captures. Each reads its arguments and files, and hands what it read to a function that calls the coder.
+// The commands on captures. Each reads its arguments and files, and hands what it read to a function that calls the coder. Of the large spaces a
+// function has one: where there are two, each is filled with zeros twice.
 use answer::Refused;
 use std::io;
 use std::io::Write;
@@ -16,6 +17,15 @@ pub fn code<W: Write>(shell: &mut Shell<W>) -> io::Result<()> {
     let Some(info) = shell.loaded(4, &mut info)? else {
         return Ok(());
     };
+    code_information(shell, n, m0, info)
+}
+
+fn code_information<W: Write>(
+    shell: &mut Shell<W>,
+    n: u64,
+    m0: u64,
+    info: &[u8],
+) -> io::Result<()> {
     let mut parity = buffer_sizes::small_space();
     let Some(parity) = shell.loaded(5, &mut parity)? else {
         return Ok(());
@@ -101,10 +111,24 @@ pub fn edit<W: Write>(shell: &mut Shell<W>) -> io::Result<()> {
     let Some(bits) = shell.loaded(4, &mut bits)? else {
         return Ok(());
     };
+    edit_block(shell, n, block, bits)
+}
+
+fn edit_block<W: Write>(shell: &mut Shell<W>, n: u64, block: u64, bits: &[u8]) -> io::Result<()> {
     let mut parity = buffer_sizes::small_space();
     let Some(parity) = shell.loaded(5, &mut parity)? else {
         return Ok(());
     };
+    edit_capture(shell, n, block, bits, parity)
+}
+
+fn edit_capture<W: Write>(
+    shell: &mut Shell<W>,
+    n: u64,
+    block: u64,
+    bits: &[u8],
+    parity: &[u8],
+) -> io::Result<()> {
     let mut capture = buffer_sizes::large_space();
     let Some(capture) = shell.loaded(6, &mut capture)? else {
         return Ok(());

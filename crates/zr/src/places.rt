@@ -5,11 +5,14 @@ use std::io::Write;
 use zr_shell::Shell;
 
 // zr map C F N GROUPS WINDOW
+// Not inlined, here and below: else `main` would hold the space, whatever the command.
+#[inline(never)]
 pub fn map<W: Write>(shell: &mut Shell<W>) -> io::Result<()> {
     convert(shell, map_groups)
 }
 
 // zr unmap C F N WINDOW GROUPS
+#[inline(never)]
 pub fn unmap<W: Write>(shell: &mut Shell<W>) -> io::Result<()> {
     convert(shell, unmap_window)
 }
