@@ -85,7 +85,10 @@ impl Partial {
     fn next_value(self, b: u8) -> Option<u64>
         ensures { result ≡ next_of (unwrap_or self.value (Some 0)) b }
     {
-        let v = self.value.unwrap_or(Some(0))?;
-        decimal::next_value(TOO_MUCH, v, b)
+        match self.value {
+            Some(Some(v)) => decimal::next_value(TOO_MUCH, v, b),
+            Some(None) => None,
+            None => decimal::next_value(TOO_MUCH, 0, b),
+        }
     }
 }
