@@ -25,6 +25,8 @@ pub step_byte : (l : Partial) (b : ℕ) {v : Option ℕ} → l.ended ≡ false �
 unfolding step_of
 step_byte l b e h p = rw (e, ne_eqb b 10 h, p)
 
+pub ruleset steps = (step_ended, step_feed, step_byte)
+
 -- ---- the number of the bytes, one byte more
 
 pub next_byte : {x : Option ℕ} {v : ℕ} (b : ℕ) {w : Option ℕ} → x ≡ Some v → w ≡ next_value too_much v b → w ≡ next_of x b
