@@ -1,4 +1,5 @@
 -- The laws of `specs/`.
 pub mod Stepping
+pub mod Lines
 pub mod Whole
 pub mod Unique

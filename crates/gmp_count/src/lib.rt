@@ -1,11 +1,13 @@
 // The count that a first line holds, in decimal: document 01, "GMP places".
 #![tactic(auto)]
 
-ghost use Rattle.std.specs.Prelude.{◌≡◌, Some};
+ghost use Rattle.std.specs.Prelude.{◌≡◌, Some, cond, eqb, length};
 ghost use Rattle.std.specs.Option.{unwrap_or};
+ghost use Rattle.prelude.specs.Loops.{upto};
 ghost use Rattle.answer.specs.Refusals.{answered};
-ghost use Rattle.gmp_count.specs.Count.{count_of};
-ghost use Rattle.gmp_count.specs.Steps.{nothing_read, next_of, step_of, more_of, so_far};
+ghost use Rattle.decimal.specs.Steps.{next_at};
+ghost use Rattle.gmp_count.specs.Count.{first_length, count_of};
+ghost use Rattle.gmp_count.specs.Steps.{too_much, nothing_read, more_of, so_far};
 
 use answer::{Refusal, Refused};
 
@@ -45,11 +47,15 @@ impl Partial {
     pub fn more(self, s: &[u8]) -> Partial
         ensures { result ≡ more_of self s.now }
     {
-        let mut next = self;
-        for &b in s {
-            next = next.step(b);
+        let Partial { value, ended } = self;
+        if ended {
+            return self;
         }
-        next
+        let end = line_length(s);
+        Partial {
+            value: more_of_line(value, &s[..end]),
+            ended: end < s.len(),
+        }
     }
 
     // What has been read, as a count.
@@ -61,34 +67,38 @@ impl Partial {
             _ => Err(Refusal::OutsideSet.at(0)),
         }
     }
+}
 
-    // One byte more.
-    fn step(self, b: u8) -> Partial
-        ensures { result ≡ step_of self b }
-    {
-        if self.ended {
-            return self;
-        }
+// How many bytes of s stand before its first line feed: all where it has none.
+fn line_length(s: &[u8]) -> usize
+    ensures { result ≡ first_length s.now }
+{
+    for (i, &b) in s.iter().enumerate() {
         if b == b'\n' {
-            return Partial {
-                value: self.value,
-                ended: true,
-            };
-        }
-        Partial {
-            value: Some(self.next_value(b)),
-            ended: false,
+            return i;
         }
     }
+    s.len()
+}
 
-    // The number of the bytes with b behind them.
-    fn next_value(self, b: u8) -> Option<u64>
-        ensures { result ≡ next_of (unwrap_or self.value (Some 0)) b }
-    {
-        match self.value {
-            Some(Some(v)) => decimal::next_value(TOO_MUCH, v, b),
-            Some(None) => None,
-            None => decimal::next_value(TOO_MUCH, 0, b),
-        }
+// The value with more bytes of the line behind it: where there are none it stays, so that an empty line has none.
+fn more_of_line(value: Option<Option<u64>>, line: &[u8]) -> Option<Option<u64>>
+    ensures { result ≡ cond (eqb (length line.now) 0) value (Some (upto (next_at too_much line.now) (unwrap_or value (Some 0)) (length line.now))) }
+{
+    if line.is_empty() {
+        return value;
     }
+    Some(read_on(value.unwrap_or(Some(0)), line))
+}
+
+// The number of the bytes with those of s behind them, which is none where they are not all digits. The loop holds the number alone and
+// ends at what is no digit, so that a byte costs no test of what was read before it.
+fn read_on(number: Option<u64>, s: &[u8]) -> Option<u64>
+    ensures { result ≡ upto (next_at too_much s.now) number (length s.now) }
+{
+    let mut v = number?;
+    for &b in s {
+        v = decimal::next_value(TOO_MUCH, v, b)?;
+    }
+    Some(v)
 }

@@ -1,14 +1,12 @@
--- `gmp_count::Partial::more` meets its contract: a byte a turn. Assumes nothing.
-use Rattle.prelude.proofs.LoopLaws.{folded_none, folded_more, folded_all}
-use Rattle.gmp_count.specs.Steps.{step_at}
+-- `gmp_count::Partial::more` meets its contract: the line of the part, and whether it ends there. Assumes nothing.
+use Rattle.gmp_count.proofs.Lines.{nothing_counts, line_taken, part_read}
 use Rattle.gmp_count.proofs.Partial.more.Goals as goal
 
-pub loop-b-init : goal.loop-b-init
-loop-b-init c = folded_none
+pub returns-then-ended : goal.returns-then-ended
+returns-then-ended c = nothing_counts _ _ _ c.if-ended.true
 
-pub loop-b-preserved : goal.loop-b-preserved
-unfolding step_at
-loop-b-preserved c = folded_more c.loop-b.invariant c.step-next.ensures
+pub slice_bounds-more_of_line-end : goal.slice_bounds-more_of_line-end
+slice_bounds-more_of_line-end c = line_taken _ c.line_length-end.ensures
 
 pub returns : goal.returns
-returns c = folded_all _ c.loop-b.invariant c.loop-b.auto.b-index-end c.loop-b-test.false
+returns c = part_read _ _ c.if-ended.false c.line_length-end.ensures c.more_of_line.ensures
