@@ -40,9 +40,9 @@ module _ (s : List ℕ) {a : Option ℕ} where
   unfolding upto
   number_begun e = record { is = sym e }
 
-  pub none_kept : a ≡ None → None ≡ upto (next_at too_much s) a (length s)
+  pub no_number_kept : a ≡ None → None ≡ upto (next_at too_much s) a (length s)
   unfolding upto
-  none_kept e = none_by s a 0 (omega arith) e
+  no_number_kept e = none_by s a 0 (omega arith) e
 
   pub none_from : {k v : ℕ} → Folded (next_at too_much s) a k (Some v) → k < length s → None ≡ next_value too_much v (get_or s k 0)
       → None ≡ upto (next_at too_much s) a (length s)

@@ -1,11 +1,11 @@
 -- `gmp_count::read_on` meets its contract: a byte a turn, up to what is no digit. Assumes nothing.
 use mathlib.Core.Path.{◌∙◌}
 use Rattle.prelude.proofs.LoopLaws.{folded_more, folded_all}
-use Rattle.gmp_count.proofs.Lines.{number_begun, none_kept, none_from}
+use Rattle.gmp_count.proofs.Lines.{number_begun, no_number_kept, none_from}
 use Rattle.gmp_count.proofs.read_on.Goals as goal
 
 pub returns-in_err-v : goal.returns-in_err-v
-returns-in_err-v c = c.from_residual.ensures ∙ none_kept _ c.in_err-v.was
+returns-in_err-v c = c.from_residual.ensures ∙ no_number_kept _ c.in_err-v.was
 
 pub loop-b-init : goal.loop-b-init
 loop-b-init c = number_begun _ c.in_ok-v.was
