@@ -5,18 +5,20 @@ use mathlib.Core.Path.{◌≡◌, refl, sym, ap, ◌∙◌}
 use mathlib.Core.List.{List, [], ◌∷◌}
 use mathlib.Core.Logic.{⊎_elim}
 use native.Mathlib.Nat.{add-zero, add-suc, eq-or-lt_of_le}
+use native.Mathlib.Numerals.{add-one}
 use native.Mathlib.Omega.{arith}
 use borrow.Author.Tests.{lt-ltb, le-ltb}
 use lib.Dec.{ltb, eqb, eqb-suc-zero}
-use lib.ListN.{length, get_or, take}
-use Rattle.std.proofs.lemmas.List.{get_or-take, length-take-le}
+use lib.ListN.{length, get_or, take, drop}
+use Rattle.std.proofs.lemmas.List.{get_or-take, get_or-drop, length-take-le, length-drop, take_all}
 use Rattle.std.specs.Prelude.{Option, Some, None}
 use Rattle.std.specs.Option.{unwrap_or}
 use Rattle.prelude.specs.Loops.{upto}
 use Rattle.prelude.proofs.LoopLaws.{Folded, First, first_holds}
+use Rattle.decimal.specs.Digits.{is_digit}
 use Rattle.decimal.specs.Steps.{next_value, next_at}
 use Rattle.gmp_count.specs.Count.{is_feed, first_length}
-use Rattle.gmp_count.specs.Steps.{too_much, next_of, step_of, step_at, more_of}
+use Rattle.gmp_count.specs.Steps.{too_much, next_of, step_of, step_at, more_of, Unchanged}
 use Rattle.gmp_count.specs.declared.Partial.{Partial}
 use Rattle.gmp_count.proofs.Stepping.{step_ended}
 
@@ -34,12 +36,8 @@ module _ (s : List ℕ) (a : Option ℕ) where
       let q : k + (length s - k) ≡ length s = omega arith in
       sym (none_stays k (length s - k) e) ∙ ap (upto (next_at too_much s) a) q
 
--- before the first byte, and where the code ends early
+-- where the code ends early
 module _ (s : List ℕ) {a : Option ℕ} where
-  pub number_begun : {v : ℕ} → a ≡ Some v → Folded (next_at too_much s) a 0 (Some v)
-  unfolding upto
-  number_begun e = record { is = sym e }
-
   pub no_number_kept : a ≡ None → None ≡ upto (next_at too_much s) a (length s)
   unfolding upto
   no_number_kept e = none_by s a 0 (omega arith) e
@@ -48,6 +46,64 @@ module _ (s : List ℕ) {a : Option ℕ} where
       → None ≡ upto (next_at too_much s) a (length s)
   unfolding upto
   none_from {k} {v} f h e = none_by s a (suc k) h (rw (← f.is) (sym e))
+
+-- ---- bytes that leave the number as it is
+
+pub unchanged_none : (v : ℕ) (s : List ℕ) → Unchanged v s 0
+unfolding upto
+unchanged_none v s = record { within = omega arith; is = refl }
+
+module _ {v : ℕ} {s : List ℕ} {k : ℕ} (u : Unchanged v s k) (h : k < length s) where
+  pub unchanged_more : Some v ≡ next_value too_much v (get_or s k 0) → Unchanged v s (k + 1)
+  unfolding upto
+  unchanged_more e = record { within = omega arith; is = rw (add-one, ← u.is) e }
+
+  pub none_behind : None ≡ next_value too_much v (get_or s k 0) → None ≡ upto (next_at too_much s) (Some v) (length s)
+  none_behind e = none_from s (record { is = u.is }) h e
+
+-- a zero behind 0
+pub zero_stays : {b : ℕ} → b ≡ 48 → Some 0 ≡ next_value too_much 0 b
+unfolding next_value
+zero_stays e = rw e refl
+
+-- a digit above every count
+pub above_stays : (b : ℕ) → true ≡ is_digit b → Some too_much ≡ next_value too_much too_much b
+unfolding next_value
+above_stays b e = rw (← e) (ap Some (omega arith))
+
+pub above_ends : (b : ℕ) → false ≡ is_digit b → None ≡ next_value too_much too_much b
+unfolding next_value
+above_ends b e = rw (← e) refl
+
+-- ---- the bytes behind k of them, read on
+
+rest_at : (s : List ℕ) (k m : ℕ) (a : Option ℕ) → upto (next_at too_much (drop k s)) (upto (next_at too_much s) a k) m ≡ upto (next_at too_much s) a (k + m)
+unfolding upto
+rest_at s k zero a = rw add-zero refl
+rest_at s k (suc m) a = rw (add-suc k m, rest_at s k m a) (same (upto (next_at too_much s) a (k + m)))
+  where
+    same : (x : Option ℕ) → next_at too_much (drop k s) m x ≡ next_at too_much s (k + m) x
+    same None = refl
+    same (Some v) = rw (get_or-drop k s m 0)
+
+-- the bytes of s from k on
+abbrev pub behind : List ℕ → ℕ → List ℕ
+behind s k = take (length s - k) (drop k s)
+
+pub rest_read : (s : List ℕ) (a : Option ℕ) {r : Option ℕ} {k v : ℕ} → k ≤ length s → Some v ≡ upto (next_at too_much s) a k
+    → r ≡ upto (next_at too_much (behind s k)) (Some v) (length (behind s k)) → r ≡ upto (next_at too_much s) a (length s)
+rest_read s a {r} {k} {v} h e p =
+    let q : k + (length s - k) ≡ length s = omega arith in
+    let w : behind s k ≡ drop k s = take_all (length s - k) (drop k s) (rw (length-drop k s) (omega arith)) in
+    rw (p, w, e, length-drop k s, rest_at s k (length s - k) a, q) refl
+
+pub rest_behind : (s : List ℕ) {a r : Option ℕ} {k v : ℕ} → a ≡ Some v → Unchanged v s k
+    → r ≡ upto (next_at too_much (behind s k)) (Some v) (length (behind s k)) → r ≡ upto (next_at too_much s) a (length s)
+rest_behind s {v = v} e u p = rw e (rest_read s (Some v) u.within u.is p)
+
+pub above_read : (s : List ℕ) (a : Option ℕ) {r : Option ℕ} {k v : ℕ} → Some v ≡ upto (next_at too_much s) a k → v ≡ too_much → k ≤ length s
+    → r ≡ upto (next_at too_much (behind s k)) (Some too_much) (length (behind s k)) → r ≡ upto (next_at too_much s) a (length s)
+above_read s a e i h p = rest_read s a h (ap Some (sym i) ∙ e) p
 
 -- the bytes of the line alone are read as the bytes of the part
 in_front : (s : List ℕ) (n k : ℕ) (a : Option ℕ) → k ≤ n → upto (next_at too_much (take n s)) a k ≡ upto (next_at too_much s) a k

@@ -1,11 +1,11 @@
 -- The first line read a part of the input at a time, whatever its length: what is kept between the parts. Assumes nothing: these are definitions.
-use Rattle.std.specs.Prelude.{ℕ, suc, true, false, cond, Option, Some, None, List, ltb, eqb, length, get_or}
+use Rattle.std.specs.Prelude.{ℕ, suc, ◌≤◌, ◌≡◌, true, false, cond, Option, Some, None, List, ltb, eqb, length, get_or}
 use Rattle.std.specs.Option.{unwrap_or, option_flatten}
 use Rattle.prelude.specs.Loops.{upto}
 use Rattle.answer.specs.Numbers.{outside_set}
 use Rattle.answer.specs.Rows.{done, refused}
 use Rattle.answer.specs.declared.Answer.{Answer}
-use Rattle.decimal.specs.Steps.{next_value}
+use Rattle.decimal.specs.Steps.{next_value, next_at}
 use Rattle.sizes.specs.Sizes.{places}
 use Rattle.gmp_count.specs.declared.Partial.{Partial}
 
@@ -36,6 +36,11 @@ step_at s i l = step_of l (get_or s i 0)
 -- all bytes of s more
 abbrev pub more_of : Partial → List ℕ → Partial
 more_of l s = upto (step_at s) l (length s)
+
+-- the first k bytes of s leave a number v as it is
+pub record Unchanged (v : ℕ) (s : List ℕ) (k : ℕ) : Type 0 where
+  pub within : k ≤ length s
+  pub is : Some v ≡ upto (next_at too_much s) (Some v) k
 
 -- what was read, as a count: an empty line is none, nor is one that is not all digits, nor what is above P
 abbrev pub told_as_count : Option ℕ → Answer

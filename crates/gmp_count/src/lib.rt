@@ -7,7 +7,7 @@ ghost use Rattle.prelude.specs.Loops.{upto};
 ghost use Rattle.answer.specs.Refusals.{answered};
 ghost use Rattle.decimal.specs.Steps.{next_at};
 ghost use Rattle.gmp_count.specs.Count.{first_length, count_of};
-ghost use Rattle.gmp_count.specs.Steps.{too_much, nothing_read, more_of, so_far};
+ghost use Rattle.gmp_count.specs.Steps.{too_much, nothing_read, more_of, so_far, Unchanged};
 
 use answer::{Refusal, Refused};
 
@@ -91,14 +91,53 @@ fn more_of_line(value: Option<Option<u64>>, line: &[u8]) -> Option<Option<u64>>
     Some(read_on(value.unwrap_or(Some(0)), line))
 }
 
-// The number of the bytes with those of s behind them, which is none where they are not all digits. The loop holds the number alone and
-// ends at what is no digit, so that a byte costs no test of what was read before it.
+// The number of the bytes with those of s behind them, which is none where they are not all digits.
 fn read_on(number: Option<u64>, s: &[u8]) -> Option<u64>
     ensures { result ≡ upto (next_at too_much s.now) number (length s.now) }
 {
-    let mut v = number?;
-    for &b in s {
+    let v = number?;
+    let front = unchanged(v, s);
+    read_digits(v, &s[front..])
+}
+
+// How many bytes in front of s leave v as it is: the zeros, where it is 0. They are passed over first, since each turn of `read_digits`
+// waits for the number of the turn before it.
+fn unchanged(v: u64, s: &[u8]) -> usize
+    ensures { Unchanged v s.now result }
+{
+    if v != 0 {
+        return 0;
+    }
+    for (k, &b) in s.iter().enumerate() {
+        if b != b'0' {
+            return k;
+        }
+    }
+    s.len()
+}
+
+// The number of the digits of s behind v.
+fn read_digits(v: u64, s: &[u8]) -> Option<u64>
+    ensures { result ≡ upto (next_at too_much s.now) (Some v) (length s.now) }
+{
+    let mut v = v;
+    for (k, &b) in s.iter().enumerate() {
+        if v == u64::from(TOO_MUCH) {
+            return read_above(&s[k..]);
+        }
         v = decimal::next_value(TOO_MUCH, v, b)?;
     }
     Some(v)
+}
+
+// The same above every count, where a digit changes nothing and no turn waits for another.
+fn read_above(s: &[u8]) -> Option<u64>
+    ensures { result ≡ upto (next_at too_much s.now) (Some too_much) (length s.now) }
+{
+    for &b in s {
+        if !b.is_ascii_digit() {
+            return None;
+        }
+    }
+    Some(u64::from(TOO_MUCH))
 }
