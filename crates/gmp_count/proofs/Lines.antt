@@ -1,5 +1,5 @@
 -- A part of the input as its line: the bytes before its first line feed are read on together. Assumes nothing.
-use Prim.Native.Nat.{ℕ, zero, suc, ◌+◌, ◌-◌, ◌≤◌, ◌<◌}
+use Prim.Native.Nat.{ℕ, zero, suc, ◌+◌, ◌-◌, ◌*◌, ◌≤◌, ◌<◌, min}
 use mathlib.Core.Bool.{Bool, true, false, cond}
 use mathlib.Core.Path.{◌≡◌, refl, sym, ap, ◌∙◌}
 use mathlib.Core.List.{List, [], ◌∷◌}
@@ -17,6 +17,7 @@ use Rattle.prelude.specs.Loops.{upto}
 use Rattle.prelude.proofs.LoopLaws.{Folded, First, first_holds}
 use Rattle.decimal.specs.Digits.{is_digit}
 use Rattle.decimal.specs.Steps.{next_value, next_at}
+use Rattle.sizes.specs.Sizes.{places}
 use Rattle.gmp_count.specs.Count.{is_feed, first_length}
 use Rattle.gmp_count.specs.Steps.{too_much, next_of, step_of, step_at, more_of, Unchanged}
 use Rattle.gmp_count.specs.declared.Partial.{Partial}
@@ -49,9 +50,9 @@ module _ (s : List ℕ) {a : Option ℕ} where
 
 -- ---- bytes that leave the number as it is
 
-pub unchanged_none : (v : ℕ) (s : List ℕ) → Unchanged v s 0
+pub unchanged_at_0 : (v : ℕ) (s : List ℕ) → Unchanged v s 0
 unfolding upto
-unchanged_none v s = record { within = omega arith; is = refl }
+unchanged_at_0 v s = record { within = omega arith; is = refl }
 
 module _ {v : ℕ} {s : List ℕ} {k : ℕ} (u : Unchanged v s k) (h : k < length s) where
   pub unchanged_more : Some v ≡ next_value too_much v (get_or s k 0) → Unchanged v s (k + 1)
@@ -87,23 +88,37 @@ rest_at s k (suc m) a = rw (add-suc k m, rest_at s k m a) (same (upto (next_at t
     same (Some v) = rw (get_or-drop k s m 0)
 
 -- the bytes of s from k on
-abbrev pub behind : List ℕ → ℕ → List ℕ
+abbrev behind : List ℕ → ℕ → List ℕ
 behind s k = take (length s - k) (drop k s)
 
-pub rest_read : (s : List ℕ) (a : Option ℕ) {r : Option ℕ} {k v : ℕ} → k ≤ length s → Some v ≡ upto (next_at too_much s) a k
+behind_drop : (s : List ℕ) (k : ℕ) → behind s k ≡ drop k s
+behind_drop s k = take_all (length s - k) (drop k s) (rw (length-drop k s) (omega arith))
+
+rest_read : (s : List ℕ) (a : Option ℕ) {r : Option ℕ} {k v : ℕ} → k ≤ length s → Some v ≡ upto (next_at too_much s) a k
     → r ≡ upto (next_at too_much (behind s k)) (Some v) (length (behind s k)) → r ≡ upto (next_at too_much s) a (length s)
 rest_read s a {r} {k} {v} h e p =
     let q : k + (length s - k) ≡ length s = omega arith in
-    let w : behind s k ≡ drop k s = take_all (length s - k) (drop k s) (rw (length-drop k s) (omega arith)) in
-    rw (p, w, e, length-drop k s, rest_at s k (length s - k) a, q) refl
+    rw (p, behind_drop s k, e, length-drop k s, rest_at s k (length s - k) a, q) refl
 
 pub rest_behind : (s : List ℕ) {a r : Option ℕ} {k v : ℕ} → a ≡ Some v → Unchanged v s k
     → r ≡ upto (next_at too_much (behind s k)) (Some v) (length (behind s k)) → r ≡ upto (next_at too_much s) a (length s)
 rest_behind s {v = v} e u p = rw e (rest_read s (Some v) u.within u.is p)
 
-pub above_read : (s : List ℕ) (a : Option ℕ) {r : Option ℕ} {k v : ℕ} → Some v ≡ upto (next_at too_much s) a k → v ≡ too_much → k ≤ length s
+-- from the largest count on, a byte more makes the same of each number
+settled : (s : List ℕ) {v : ℕ} → places ≤ v → v ≤ too_much → (n : ℕ) → upto (next_at too_much s) (Some too_much) (suc n) ≡ upto (next_at too_much s) (Some v) (suc n)
+unfolding upto next_value
+settled s {v} l h zero = rw (le-ltb too_much v h) (by (is_digit (get_or s 0 0)))
+  where
+    by : (t : Bool) → cond t (Some (min (too_much * 10 + (get_or s 0 0 - 48)) too_much)) None ≡ cond t (Some (min (v * 10 + (get_or s 0 0 - 48)) too_much)) None
+    by true = ap Some (omega arith)
+    by false = refl
+settled s l h (suc n) = ap (next_at too_much s (suc n)) (settled s l h n)
+
+pub above_read : (s : List ℕ) (a : Option ℕ) {r : Option ℕ} {k v : ℕ} → Some v ≡ upto (next_at too_much s) a k → places ≤ v → v ≤ too_much → k < length s
     → r ≡ upto (next_at too_much (behind s k)) (Some too_much) (length (behind s k)) → r ≡ upto (next_at too_much s) a (length s)
-above_read s a e i h p = rest_read s a h (ap Some (sym i) ∙ e) p
+above_read s a {k = k} e l h i p =
+    let q : length (behind s k) ≡ suc (length s - suc k) = rw (behind_drop s k, length-drop k s) (omega arith) in
+    rest_read s a (omega arith) e (rw (p, q) (settled (behind s k) l h (length s - suc k)))
 
 -- the bytes of the line alone are read as the bytes of the part
 in_front : (s : List ℕ) (n k : ℕ) (a : Option ℕ) → k ≤ n → upto (next_at too_much (take n s)) a k ≡ upto (next_at too_much s) a k

@@ -96,13 +96,13 @@ fn read_on(number: Option<u64>, s: &[u8]) -> Option<u64>
     ensures { result ≡ upto (next_at too_much s.now) number (length s.now) }
 {
     let v = number?;
-    let front = unchanged(v, s);
+    let front = zeros_in_front(v, s);
     read_digits(v, &s[front..])
 }
 
-// How many bytes in front of s leave v as it is: the zeros, where it is 0. They are passed over first, since each turn of `read_digits`
-// waits for the number of the turn before it.
-fn unchanged(v: u64, s: &[u8]) -> usize
+// How many bytes in front of s are passed over, since they leave v as it is: its zeros where v is 0, and else none. In `read_digits` each
+// turn waits for the number of the turn before.
+fn zeros_in_front(v: u64, s: &[u8]) -> usize
     ensures { Unchanged v s.now result }
 {
     if v != 0 {
@@ -116,7 +116,7 @@ fn unchanged(v: u64, s: &[u8]) -> usize
     s.len()
 }
 
-// The number of the digits of s behind v.
+// The same behind the number v, a byte a turn.
 fn read_digits(v: u64, s: &[u8]) -> Option<u64>
     ensures { result ≡ upto (next_at too_much s.now) (Some v) (length s.now) }
 {
@@ -130,7 +130,7 @@ fn read_digits(v: u64, s: &[u8]) -> Option<u64>
     Some(v)
 }
 
-// The same above every count, where a digit changes nothing and no turn waits for another.
+// The same above every count, where a digit changes nothing, so that no turn waits for another.
 fn read_above(s: &[u8]) -> Option<u64>
     ensures { result ≡ upto (next_at too_much s.now) (Some too_much) (length s.now) }
 {

@@ -8,6 +8,7 @@ ghost use Rattle.zr_argument.specs.Numbers.{number_of};
 pub const MOST: u32 = 1000000;
 
 // The number that s is in decimal; none where s is empty or not all digits.
+// The law is named here and not in proofs/: so each return behind the loop is asked it.
 #[tactic(auto, using(crate::proofs::Digits::all_read))]
 pub fn number_of(s: &[u8]) -> Option<u64>
     ensures { result ≡ number_of s.now }

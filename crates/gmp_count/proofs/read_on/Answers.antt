@@ -7,4 +7,4 @@ pub returns-in_err-v : goal.returns-in_err-v
 returns-in_err-v c = c.from_residual.ensures ∙ no_number_kept _ c.in_err-v.was
 
 pub returns : goal.returns
-returns c = let e = c.in_ok-v.was in rest_behind _ e c.unchanged-front.ensures c.read_digits.ensures
+returns c = let e = c.in_ok-v.was in rest_behind _ e c.zeros_in_front-front.ensures c.read_digits.ensures
