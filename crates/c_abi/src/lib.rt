@@ -49,7 +49,7 @@ impl From<Result<Run, Refused>> for HostRun {
 // Kept: each export hands out C's numbers, `Answer` or `HostRun`, and takes what C hands over one by one: hosts/c/zr400.h declares them so.
 
 // The kind of place j and the last place of its run.
-// An arm for each of the three answers, which alike as they look are not one: each has its number and kind as constants, which are stored
+// Stuff and data have an arm each, though the arms read the same: so the number and the kind of each answer are constants, and are stored
 // together. Stored one by one they make a caller wait that copies the run.
 #[unsafe(no_mangle)]
 pub extern "C" fn zr400_run(c: u64, j: u64) -> HostRun

@@ -100,8 +100,8 @@ fn read_on(number: Option<u64>, s: &[u8]) -> Option<u64>
     read_digits(v, &s[front..])
 }
 
-// How many bytes in front of s are passed over, since they leave v as it is: its zeros where v is 0, and else none. In `read_digits` each
-// turn waits for the number of the turn before.
+// How many bytes in front of s are passed over, since they leave v as it is: its zeros where v is 0, and else none. They would take longer in
+// `read_digits`, where each turn waits for the number of the turn before.
 fn zeros_in_front(v: u64, s: &[u8]) -> usize
     ensures { Unchanged v s.now result }
 {
@@ -116,7 +116,7 @@ fn zeros_in_front(v: u64, s: &[u8]) -> usize
     s.len()
 }
 
-// The same behind the number v, a byte a turn.
+// What `read_on` answers behind the number v, a byte a turn.
 fn read_digits(v: u64, s: &[u8]) -> Option<u64>
     ensures { result ≡ upto (next_at too_much s.now) (Some v) (length s.now) }
 {
@@ -130,7 +130,7 @@ fn read_digits(v: u64, s: &[u8]) -> Option<u64>
     Some(v)
 }
 
-// The same above every count, where a digit changes nothing, so that no turn waits for another.
+// What `read_on` answers above every count, where a digit changes nothing, so that no turn waits for another.
 fn read_above(s: &[u8]) -> Option<u64>
     ensures { result ≡ upto (next_at too_much s.now) (Some too_much) (length s.now) }
 {
