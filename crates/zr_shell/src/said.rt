@@ -30,7 +30,11 @@ impl<W: Write> Shell<'_, W> {
         }
         if let Some(name) = buffer(refused, names) {
             write!(self.out, ", the ")?;
-            self.out.write_all(name.as_slice())?;
+            // As `write!` leaves it out, an empty name is not handed to the writer, which may refuse to write nothing.
+            let name = name.as_slice();
+            if !name.is_empty() {
+                self.out.write_all(name)?;
+            }
         }
         writeln!(self.out, ": {}", refused.refusal)
     }
@@ -162,5 +166,80 @@ fn without_code(text: &str) -> &str {
     match text.split_once(" (os error ") {
         Some((words, _)) => words,
         None => text,
+    }
+}
+
+#[cfg(test)]
+mod tests {
+    use crate::Shell;
+    use answer::Refusal;
+    use std::io::{self, ErrorKind, Write};
+
+    // What was written to a writer that refuses to write nothing.
+    #[derive(Drop)]
+    struct Strict {
+        held: [u8; 80],
+        length: usize,
+    }
+
+    impl Strict {
+        fn new() -> Strict {
+            Strict {
+                held: [0; 80],
+                length: 0,
+            }
+        }
+
+        fn holds(&self, text: &[u8]) -> bool {
+            self.held.get(..self.length) == Some(text)
+        }
+    }
+
+    impl Write for Strict {
+        fn write(&mut self, bytes: &[u8]) -> io::Result<usize> {
+            if bytes.is_empty() {
+                return Err(io::Error::from(ErrorKind::InvalidInput));
+            }
+            for b in bytes {
+                if let Some(place) = self.held.get_mut(self.length) {
+                    *place = *b;
+                    self.length = self.length.saturating_add(1);
+                }
+            }
+            Ok(bytes.len())
+        }
+
+        fn write_all(&mut self, bytes: &[u8]) -> io::Result<()> {
+            self.write(bytes)?;
+            Ok(())
+        }
+
+        fn flush(&mut self) -> io::Result<()> {
+            Ok(())
+        }
+    }
+
+    // Of a wrong length at place 1 of buffers with these names.
+    fn is_said(rt: &HostRuntime, names: &[&str], text: &[u8]) -> io::Result<bool> {
+        let mut shell = Shell {
+            out: Strict::new(),
+            rt,
+        };
+        shell.refused(Refusal::WrongLength.at(1), names)?;
+        Ok(shell.out.holds(text))
+    }
+
+    #[test]
+    fn an_empty_name_is_left_out(rt: HostRuntime) -> io::Result<()> {
+        let text = b"refused 2 at buffer 1, the : a buffer's length is not the stated one\n";
+        assert!(rt; is_said(&rt, &[""], text)?);
+        Ok(())
+    }
+
+    #[test]
+    fn a_name_is_written_whole(rt: HostRuntime) -> io::Result<()> {
+        let text = b"refused 2 at buffer 1, the list: a buffer's length is not the stated one\n";
+        assert!(rt; is_said(&rt, &["list", "head"], text)?);
+        Ok(())
     }
 }
